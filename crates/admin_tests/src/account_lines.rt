@@ -1,5 +1,5 @@
 //! Files of records, and their first bad lines.
-use accounts::{AccountRecord, Ledger};
+use at_account::{AccountRecord, Ledger};
 use record_lines::{LinesFault, lines_text, read_lines, read_records_can_be_written};
 use std::test::Fail;
 

@@ -3,7 +3,7 @@ ghost use Rattle.std.specs.Prelude.{IfOk};
 ghost use Rattle.host_calls.specs.Session.{IsOutside};
 ghost use Rattle.memory_host.specs.Host.{memory_session};
 
-use crate::folders::{named, texts};
+use crate::directories::{named, texts};
 use at_account::{account_name, account_program};
 use memory_host::{Files, MemoryHost, MemorySink, Plan};
 use std::alloc::{AllocError, Global};

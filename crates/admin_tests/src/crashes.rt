@@ -1,14 +1,14 @@
-//! A salvage that a crash cuts off at each host call of the new folder.
+//! A salvage that a crash cuts off at each host call of the new directory.
 ghost use Rattle.std.specs.Prelude.{IfOk};
 ghost use Rattle.host_calls.specs.Session.{IsOutside};
 ghost use Rattle.memory_host.specs.Host.{memory_session};
 
-use crate::folders::{JOB, code_of, folder, named};
+use crate::directories::{JOB, code_of, directory, named};
 use memory_host::MemoryHost;
 use std::alloc::Global;
 use std::test::Fail;
 
-// A folder with a fault, of which two jobs are saved.
+// A directory with a fault, of which two jobs are saved.
 fn damaged(alloc: Global) -> Result<MemoryHost, Fail>
     ensures { IfOk result (λ host. IsOutside (memory_session host)) }
 {
@@ -17,21 +17,21 @@ fn damaged(alloc: Global) -> Result<MemoryHost, Fail>
         ("a0000101b968a0", JOB),
         ("a0000201b968a0", JOB),
     ];
-    folder(alloc, &files, None)
+    directory(alloc, &files, None)
 }
 
-// Salvages into a folder where no call gets through from the fuse on, and reboots it with the pick: the status, and whether
-// the sequence file stands there, with which both jobs do.
+// Salvages into a directory where no call gets through from the fuse on, and reboots it with the pick: the status, and
+// whether the sequence file is there, with which both jobs do.
 fn cut_off(alloc: Global, fuse: u64, pick: u64) -> Result<(u8, bool), Fail> {
     let mut from = damaged(alloc)?;
-    let mut to = folder(alloc, &[], Some(fuse))?;
+    let mut to = directory(alloc, &[], Some(fuse))?;
     let code = code_of(alloc, &["atcheck", "--salvage"], &mut from, &mut to)?;
     to.reboot(alloc, pick, None)?;
-    let stands = to.reading(&named(".SEQ")?).is_some();
-    if stands {
+    let holds = to.reading(&named(".SEQ")?).is_some();
+    if holds {
         are_saved(&to)?;
     }
-    Ok((code, stands))
+    Ok((code, holds))
 }
 
 fn are_saved(to: &MemoryHost) -> Result<(), Fail> {
@@ -49,9 +49,9 @@ const CALLS: u64 = 18;
 fn the_sequence_file_comes_last(rt: HostRuntime) -> Result<(), Fail> {
     for fuse in 1..CALLS + 2 {
         for &pick in &[0, 1, u64::MAX] {
-            let (code, stands) = cut_off(rt.alloc(), fuse, pick)?;
+            let (code, holds) = cut_off(rt.alloc(), fuse, pick)?;
             assert_eq!(rt; code == 9, fuse == CALLS + 1, "fuse {fuse}, pick {pick}");
-            assert!(rt; stands || code != 9, "fuse {fuse}, pick {pick}");
+            assert!(rt; holds || code != 9, "fuse {fuse}, pick {pick}");
         }
     }
     Ok(())

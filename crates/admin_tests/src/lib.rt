@@ -8,7 +8,7 @@ mod account_sessions;
 #[cfg(test)]
 mod crashes;
 #[cfg(test)]
-mod folders;
+mod directories;
 #[cfg(test)]
 mod many;
 #[cfg(test)]

@@ -1,11 +1,11 @@
 //! A salvage of many jobs.
-use crate::folders::{JOB, code_of, folder, named};
+use crate::directories::{JOB, code_of, directory, named};
 use host_calls::Name;
 use memory_host::{Files, MemoryHost, Plan};
 use std::alloc::Global;
 use std::test::Fail;
 
-// How many jobs the folder has.
+// How many jobs the directory has.
 const JOBS: u32 = 300;
 
 // The name of the file of one of them.
@@ -30,7 +30,7 @@ fn spool(alloc: Global) -> Result<Files, Fail> {
     Ok(files)
 }
 
-// Whether the folder has each of them, with its bytes.
+// Whether the directory has each of them, with its bytes.
 fn has_all(alloc: Global, host: &MemoryHost) -> Result<bool, Fail> {
     for number in 1..JOBS + 1 {
         if host.reading(&name_of(alloc, number)?) != Some(JOB) {
@@ -43,7 +43,7 @@ fn has_all(alloc: Global, host: &MemoryHost) -> Result<bool, Fail> {
 // The status of a salvage of them, and whether the target has each.
 fn saved(alloc: Global) -> Result<(u8, bool), Fail> {
     let mut from = MemoryHost::make(alloc, spool(alloc)?, Plan::quiet(alloc))?;
-    let mut to = folder(alloc, &[], None)?;
+    let mut to = directory(alloc, &[], None)?;
     let code = code_of(alloc, &["atcheck", "--salvage"], &mut from, &mut to)?;
     drop(from);
     Ok((code, has_all(alloc, &to)?))

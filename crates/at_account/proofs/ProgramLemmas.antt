@@ -1,13 +1,13 @@
--- How the program ends, by what its words ask for, and once the line of its cause was said.
+-- How the program ends, by what its words request, and once the line of its cause was said.
 use Rattle.std.proofs.Common.{◌≡◌, ◌≢◌, ◌∙◌, ℕ, Bool, true, List, ◌++◌, length, inl, inr, refl, sym, ap, subst, arith, append-nil}
 use Rattle.std.specs.Prelude.{Result, Ok, Err}
 use Rattle.std.proofs.lemmas.List.{take_all}
 use Rattle.at_words.specs.Answers.{Answers}
 use Rattle.at_words.specs.declared.fault.WordsFault.{WordsFault}
 use Rattle.at_words.specs.declared.fault.WordsFault.TheVariants as words
-use Rattle.cause_output.specs.Saying.{IsSaid, IsFailure, SaysLine}
-use Rattle.cause_output.specs.Causes.{words_cause}
-use Rattle.cause_output.specs.Sinks.{EndsLine, IsPutInPart, IsPutOrCut, IsSilent, SinkAt}
+use Rattle.tool_output.specs.SaidLines.{IsSaid, IsFailure, SaysLine}
+use Rattle.tool_output.specs.Causes.{words_cause}
+use Rattle.tool_output.specs.Sinks.{EndsLine, IsPutInPart, IsPutOrCut, IsSilent, SinkAt}
 use Rattle.host_calls.proofs.WorldLemmas.{goes_on_none}
 use Rattle.host_calls.specs.declared.host.Host as host
 use Rattle.host_calls.specs.declared.sink.Sink as sink
@@ -17,8 +17,8 @@ use Rattle.listing_text.specs.Cause.{cause_line_of}
 use Rattle.listing_text.specs.declared.cause.Cause.{Cause}
 use Rattle.listing_text.specs.declared.cause.Cause.TheVariants.{Done, Refused, FileFault, OutputFault, Busy, Memory, Damaged}
 use Rattle.whole_file.proofs.OthersLemmas.{changes_none}
-use Rattle.cause_output.specs.Outside.{OutsideAt}
-use Rattle.at_account.specs.Accounting.{Accounting, IsAccounting, AccountLeaves}
+use Rattle.tool_output.specs.Outside.{OutsideAt}
+use Rattle.at_account.specs.AccountOutcome.{Accounting, IsAccounting, AccountLeaves}
 
 -- nothing was done
 same_session : (session : Session) → IsOutside session → IsLeft session session
@@ -45,13 +45,13 @@ module _ (asked : Result Bool WordsFault) (at : OutsideAt) (outside : IsOutside 
     busy = λ same. absurd (no_busy same);
     output_fault = λ same. absurd (no_output same);
     made_as = refl;
-    unasked = λ other was. record { because = inl (ap words_cause (same_fault asked fault other is was)); session = refl; spool = refl; silent = λ tells. same_silent at.holds.output };
+    unasked = λ other was. record { because = inl (ap words_cause (same_fault asked fault other is was)); session = refl; spool = refl; unchecked = λ tells. same_silent at.holds.output };
     may_end = λ show was. absurd (not_both asked fault show is was);
-    images = λ tells alone. changes_none (IsAccounting at.holds.spool.now.folder) at.holds.spool;
+    images = λ tells alone. changes_none (IsAccounting at.holds.spool.now.directory) at.holds.spool;
     leaves = λ show was tells alone. absurd (not_both asked fault show is was);
   }
 
-  -- words for which no memory was found
+  -- words for which memory ran out
   unread : Accounting asked at at Memory
   unread = record {
     left = same_session at.session outside;
@@ -60,9 +60,9 @@ module _ (asked : Result Bool WordsFault) (at : OutsideAt) (outside : IsOutside 
     busy = λ same. (let no : Memory ≡ Busy = same in cc);
     output_fault = λ same. (let no : Memory ≡ OutputFault = same in cc);
     made_as = refl;
-    unasked = λ other was. record { because = inr refl; session = refl; spool = refl; silent = λ tells. same_silent at.holds.output };
+    unasked = λ other was. record { because = inr refl; session = refl; spool = refl; unchecked = λ tells. same_silent at.holds.output };
     may_end = λ show was. tt;
-    images = λ tells alone. changes_none (IsAccounting at.holds.spool.now.folder) at.holds.spool;
+    images = λ tells alone. changes_none (IsAccounting at.holds.spool.now.directory) at.holds.spool;
     leaves = λ show was tells alone output. inl (same_silent at.holds.output);
   }
 
@@ -71,7 +71,7 @@ module _ (asked : Result Bool WordsFault) (at : OutsideAt) (outside : IsOutside 
   unasked_ends words.BadQueue is = refused words.BadQueue is (λ same. (cc)) (λ same. (cc)) (λ same. (cc))
   unasked_ends words.Memory is = unread
 
--- what is left where the line of a cause found no memory
+-- what is left where the line of a cause ran out of memory
 no_memory_leaves : (show output : Bool) (old new : World) (was now : SinkAt) (cause : Cause) → IsFailure cause → AccountLeaves show output old new was now cause → AccountLeaves show output old new was now Memory
 no_memory_leaves show output old new was now OutputFault undone is = λ tells.
     let cut = is.2 tells in
@@ -93,13 +93,13 @@ module _ (asked : Result Bool WordsFault) (old new : OutsideAt) (cause : Cause) 
     busy = λ same. (let no : Memory ≡ Busy = same in cc);
     output_fault = λ same. (let no : Memory ≡ OutputFault = same in cc);
     made_as = ends.made_as;
-    unasked = λ fault was. record { because = inr refl; session = (ends.unasked fault was).session; spool = (ends.unasked fault was).spool; silent = (ends.unasked fault was).silent };
+    unasked = λ fault was. record { because = inr refl; session = (ends.unasked fault was).session; spool = (ends.unasked fault was).spool; unchecked = (ends.unasked fault was).unchecked };
     may_end = λ show was. tt;
     images = ends.images;
     leaves = λ show was tells alone. no_memory_leaves show old.tells.output old.holds.spool new.holds.spool old.holds.output new.holds.output cause undone (ends.leaves show was tells alone);
   }
 
-  -- the line of the cause was said, or found no memory
+  -- the line of the cause was said, or ran out of memory
   pub said_ends : (tool : List ℕ) (tells : Bool) (err_old err_new : SinkAt) (final : Cause) → IsSaid tool tells cause err_old err_new final → Accounting asked old new final
   said_ends tool tells err_old err_new final said = elim said [
     | inl as_is ↦ subst (Accounting asked old new) (sym as_is.0) ends

@@ -2,22 +2,22 @@
 use Rattle.std.proofs.Common.{◌≡◌, ℕ, Bool, true, List, inl, inr, refl, sym, subst, arith}
 use Rattle.std.specs.Prelude.{Result, Ok, Err, IfErr}
 use Rattle.std.specs.Fn.{CalledAtMut}
-use Rattle.cause_output.specs.Causes.{cause_of_entry}
-use Rattle.cause_output.specs.declared.command_error.CommandError.{CommandError}
-use Rattle.cause_output.specs.Sinks.{IsSilent, SinkAt}
-use Rattle.cause_output.specs.Whole.{PutsWhole}
+use Rattle.tool_output.specs.Causes.{cause_of_entry}
+use Rattle.tool_output.specs.declared.command_error.CommandError.{CommandError}
+use Rattle.tool_output.specs.Sinks.{IsSilent, SinkAt}
+use Rattle.tool_output.specs.Whole.{PutsWhole}
 use Rattle.host_calls.specs.declared.fault.EnterFault.{EnterFault}
 use Rattle.host_calls.specs.declared.fault.EnterFault.TheVariants as entry
 use Rattle.host_calls.specs.declared.host.Host.{Ghosts}
 use Rattle.host_calls.specs.World.{World}
-use Rattle.host_session.specs.Work.{Calls}
+use Rattle.host_calls.specs.SessionWork.{Calls}
 use Rattle.listing_text.specs.declared.cause.Cause.{Cause}
 use Rattle.listing_text.specs.declared.cause.Cause.TheVariants.{Done, Refused, FileFault, OutputFault, Busy, Memory, Damaged}
 use Rattle.listing_text.specs.declared.refusal.Refusal.TheVariants as refusal
 use Rattle.spool_session.specs.Sessions.{EndsCommandSession, IsOfSession}
 use Rattle.whole_file.specs.Others.{ChangesFiles}
 use Rattle.whole_file.proofs.OthersLemmas.{changes_none}
-use Rattle.at_account.specs.Accounting.{IsAccounted, IsAccounting, AccountLeaves, MayEndAccount}
+use Rattle.at_account.specs.AccountOutcome.{IsAccounted, IsAccounting, AccountLeaves, MayEndAccount}
 use Rattle.at_account.specs.inside.Inside.{EndsInside, IsAccountingCause, StopsInside}
 
 -- what stops the work may end the program, and comes within a session
@@ -80,13 +80,13 @@ module _ {H F : Type 0} (g : Ghosts H) (calls : Calls H F (Result (List ℕ) Com
 
   -- what each image has
   pub session_images : ((first last : H) → CalledAtMut calls work first result left last → g.tells ≡ true
-      → ChangesFiles (IsAccounting (g.world first).now.folder) (g.world first) (g.world last))
-      → g.tells ≡ true → g.alone ≡ true → ChangesFiles (IsAccounting (g.world old).now.folder) (g.world old) (g.world new)
+      → ChangesFiles (IsAccounting (g.world first).now.directory) (g.world first) (g.world last))
+      → g.tells ≡ true → g.alone ≡ true → ChangesFiles (IsAccounting (g.world old).now.directory) (g.world old) (g.world new)
   session_images within tells alone = elim ends [
-    | inl none ↦ subst (λ now. ChangesFiles (IsAccounting (g.world old).now.folder) (g.world old) now) (sym (none.undone.refused.quiet.alone tells alone))
-        (changes_none (IsAccounting (g.world old).now.folder) (g.world old))
-    | inr done ↦ subst (λ now. ChangesFiles (IsAccounting (g.world old).now.folder) (g.world old) now) (sym (done.quiet.alone tells alone))
-        (subst (λ (from : World). ChangesFiles (IsAccounting from.now.folder) from (g.world done.last)) (done.begun.quiet.alone tells alone)
+    | inl none ↦ subst (λ now. ChangesFiles (IsAccounting (g.world old).now.directory) (g.world old) now) (sym (none.undone.refused.quiet.alone tells alone))
+        (changes_none (IsAccounting (g.world old).now.directory) (g.world old))
+    | inr done ↦ subst (λ now. ChangesFiles (IsAccounting (g.world old).now.directory) (g.world old) now) (sym (done.quiet.alone tells alone))
+        (subst (λ (from : World). ChangesFiles (IsAccounting from.now.directory) from (g.world done.last)) (done.begun.quiet.alone tells alone)
         (within done.first done.last done.did tells))
   ]
 

@@ -2,9 +2,9 @@
 use Rattle.std.proofs.Common.{◌≡◌, ◌∙◌, ℕ, ◌+◌, ◌<◌, ◌≤◌, List, [], ◌∷◌, ◌++◌, length, drop, get_or, refl, sym, ap, append_assoc, append-nil, add-one, drop-cons}
 use Rattle.std.specs.Fmt.{decimal}
 use Rattle.std.proofs.lemmas.List.{drop_all}
-use Rattle.cause_output.specs.Putting.{joined_lines}
-use Rattle.accounts.specs.declared.line.AccountLine.{AccountLine}
-use Rattle.at_account.specs.Showing.{counts_text, line_text}
+use Rattle.tool_output.specs.PutLines.{joined_lines}
+use Rattle.at_account.specs.declared.line.AccountLine.{AccountLine}
+use Rattle.at_account.specs.TotalLines.{counts_text, line_text}
 
 -- one more of a list is told
 told_more : {X : Type 0} (tell : List X → List ℕ) (one_text : X → List ℕ) (cons : (x : X) (xs : List X) → tell (x ∷ xs) ≡ one_text x ++ tell xs) (start text more : List ℕ) (list : List X) (place : ℕ) (other : X)

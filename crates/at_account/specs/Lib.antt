@@ -1,6 +1,13 @@
-pub mod Accounting
-pub mod Counting
+pub mod AccountOutcome
+pub mod Laws
+pub mod Lines
 pub mod Names
-pub mod Showing
+pub mod News
+pub mod ObservedTable
+pub mod RecordStates
+pub mod Records
+pub mod TotalLines
+pub mod Totals
+pub mod UpdatedRecords
 pub mod Words
 pub mod inside

@@ -1,2 +1,6 @@
-pub mod Filing
+pub mod AccountFile
 pub mod Inside
+pub mod KnownJobs
+pub mod NewRecordsOfJobs
+pub mod OwnerCounts
+pub mod Spelling

@@ -1,17 +1,17 @@
-//! The program: what its words ask for, done.
+//! The program: what its words request, done.
 ghost use Rattle.std.specs.Prelude.{◌≡◌, IsTrue, codes, map, string_bytes};
-ghost use Rattle.cause_output.specs.Sinks.{EndsLine, sink_at};
+ghost use Rattle.tool_output.specs.Sinks.{EndsLine, sink_at};
 ghost use Rattle.host_calls.specs.Session.{IsOutside};
 ghost use Rattle.listing_text.specs.Cause.{status_of};
-ghost use Rattle.at_account.specs.Accounting.{Accounting, account_outside};
+ghost use Rattle.at_account.specs.AccountOutcome.{Accounting, account_outside};
 ghost use Rattle.at_account.specs.Words.{account_asked};
 
 use crate::session::account;
 use crate::words::asks_to_show;
-use cause_output::{cause_of_words, say_cause};
 use host_calls::{Host, Sink};
 use listing_text::{Cause, Status};
 use std::alloc::Global;
+use tool_output::{cause_of_words, say_cause};
 
 // The name under which the program says its causes.
 const PROGRAM: &str = "ataccount";
@@ -37,7 +37,7 @@ pub fn account_program<H: Host, O: Sink, E: Sink>(
     Status::of(say_cause(alloc, PROGRAM, cause, err))
 }
 
-// Does what the words ask for. The line of the cause is still to be said.
+// Does what the words request. The line of the cause is still to be said.
 fn account_by_words<H: Host, O: Sink>(
     alloc: Global,
     words: &[String],

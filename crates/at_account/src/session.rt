@@ -1,9 +1,9 @@
 //! The session: the recovery, the records with what is new, and the file that has them.
 ghost use Rattle.std.specs.Prelude.{◌≡◌, ◌≢◌, All, IfErr, IfOk, IsTrue};
 ghost use Rattle.std.specs.FinMap as map;
-ghost use Rattle.accounts.specs.Lines.{SpellsRecord};
-ghost use Rattle.cause_output.specs.Causes.{error_of};
-ghost use Rattle.cause_output.specs.Sinks.{sink_at};
+ghost use Rattle.at_account.specs.Lines.{SpellsRecord};
+ghost use Rattle.tool_output.specs.Causes.{error_of};
+ghost use Rattle.tool_output.specs.Sinks.{sink_at};
 ghost use Rattle.host_calls.specs.Causes.{Rose};
 ghost use Rattle.host_calls.specs.Session.{CallsInside, IsInside, IsOutside};
 ghost use Rattle.host_calls.specs.World.{TimePasses, reading};
@@ -11,20 +11,20 @@ ghost use Rattle.listing_text.specs.declared.cause.Cause.TheVariants as cause;
 ghost use Rattle.record_lines.specs.Lines.{CanBeSpelled};
 ghost use Rattle.spool_session.specs.Sessions.{HasRisenIn, StaysQuiet};
 ghost use Rattle.whole_file.specs.Others.{ChangesFiles};
-ghost use Rattle.at_account.specs.Accounting.{IsAccounting, MayEndAccount};
+ghost use Rattle.at_account.specs.AccountOutcome.{IsAccounting, MayEndAccount};
 ghost use Rattle.at_account.specs.Names.{account_file};
 ghost use Rattle.at_account.specs.inside.Inside.{Accounts, Counts, EndsInside, IsAccountingCause};
 
 use crate::file::{read_account, write_account};
 use crate::show::shown_counts;
-use accounts::{Account, AccountFault};
-use cause_output::{CommandError, put_whole};
+use crate::{Account, AccountFault};
 use host_calls::{Bytes, Host, Sink};
 use listing_text::{Cause, Refusal};
 use spool_model::LAST_NUMBER;
 use spool_session::in_command_session;
 use spool_store::Store;
 use std::alloc::Global;
+use tool_output::{CommandError, put_whole};
 
 // Counts what became of the jobs, and puts the lines where they are to be shown.
 pub(crate) fn account<H: Host, O: Sink>(
@@ -50,15 +50,15 @@ pub(crate) fn account<H: Host, O: Sink>(
     }
 }
 
-// Counts what became of the jobs. What is to be shown is made before the file is replaced, so that want of memory for it
-// changes nothing.
+// Counts what became of the jobs. What is to be shown is made before the file is replaced, so that an out-of-memory
+// error for it changes nothing.
 fn account_inside<H: Host>(alloc: Global, show: bool, host: &mut H) -> Result<Bytes, CommandError>
     requires { IsInside (H.session host.old) }
     ensures inside { CallsInside (error_of cause.FileFault) (H.session host.old) (H.session host.new) result }
     ensures comes { IfErr result (λ stopped. IsAccountingCause stopped.cause) }
     ensures goes_on { IsTrue H.tells → TimePasses (H.world host.old) (H.world host.new) }
     ensures images { IsTrue H.tells
-        → ChangesFiles (IsAccounting (H.world host.old).now.folder) (H.world host.old) (H.world host.new) }
+        → ChangesFiles (IsAccounting (H.world host.old).now.directory) (H.world host.old) (H.world host.new) }
     ensures ends { IsTrue H.tells → EndsInside show (H.world host.old) (H.world host.new) result }
 {
     let store = Store::recover(alloc, host)?;

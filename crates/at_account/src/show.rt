@@ -1,14 +1,14 @@
 //! The lines that are shown.
 ghost use Rattle.std.specs.Prelude.{◌≡◌, ◌∷◌, ◌++◌, IfOk, OnOk};
 ghost use Rattle.std.specs.Fmt.{decimal};
-ghost use Rattle.cause_output.specs.Putting.{joined_lines};
-ghost use Rattle.at_account.specs.Showing.{IsShown, counts_text, line_text};
+ghost use Rattle.tool_output.specs.PutLines.{joined_lines};
+ghost use Rattle.at_account.specs.TotalLines.{IsShown, counts_text, line_text};
 
-use accounts::{Account, AccountLine};
+use crate::{Account, AccountLine};
 use host_calls::Bytes;
 use std::alloc::{AllocError, Global};
 
-// What is shown of the account: a line for each owner where it is asked for, and else nothing.
+// What is shown of the account: a line for each owner where it is requested, and else nothing.
 pub(crate) fn shown_counts(
     alloc: Global,
     show: bool,

@@ -17,29 +17,29 @@ use Rattle.listing_text.specs.declared.refusal.Refusal.TheVariants.{BadUser, Bad
 use Rattle.listing_text.specs.Listing.{IsListing}
 use Rattle.spool_model.specs.JobTable.{JobTable}
 use Rattle.spool_model.specs.Users.{IsUserName}
-use Rattle.cause_output.specs.declared.caller.Caller.{Caller}
-use Rattle.cause_output.specs.declared.command_error.CommandError.{CommandError}
-use Rattle.cause_output.specs.Causes.{cause_in, error_of}
+use Rattle.tool_output.specs.declared.caller.Caller.{Caller}
+use Rattle.tool_output.specs.declared.command_error.CommandError.{CommandError}
+use Rattle.tool_output.specs.Causes.{cause_in, error_of}
 use Rattle.command_rules.specs.Checks.{Check, check_of, is_earlier_check, of_lock}
 use Rattle.command_rules.specs.Ends.{CommandEnds, KeepsOrder, StopsBeforeLock}
-use Rattle.cause_output.specs.Outside.{Holding, Telling, holding, telling}
+use Rattle.tool_output.specs.Outside.{Holding, Telling, holding, telling}
 use Rattle.command_rules.specs.Found.{Finds, Found, answers_read}
-use Rattle.at_commands.specs.inside.Carrying.{AreUnrefusedSteps, Carries, Finding, IsSessionLine, IsSessionText}
+use Rattle.at_commands.specs.inside.SessionOutcome.{AreUnrefusedSteps, Carries, Finding, IsSessionLine, IsSessionText}
 use Rattle.command_rules.specs.Requested.{RequestPrints, RequestSays, next_number, passes_of, scripts_of}
 use Rattle.command_rules.specs.Sessions.{IsNotOpened, IsStoreOpened}
-use Rattle.cause_output.specs.Sinks.{IsPut, NotesBy, PrintsBy, SinkAt, HasBytes}
-use Rattle.cause_output.specs.Whole.{PutsWhole}
-use Rattle.cause_output.proofs.PutLemmas.{part_of_cut}
+use Rattle.tool_output.specs.Sinks.{IsPut, NotesBy, PrintsBy, SinkAt, HasBytes}
+use Rattle.tool_output.specs.Whole.{PutsWhole}
+use Rattle.tool_output.proofs.PutLemmas.{part_of_cut}
 use Rattle.command_rules.specs.Verdict.{early_verdict, filter_check, first_refusal, jobs_check, spool_verdict, user_check, zone_check}
 use Rattle.civil_minute.specs.Zone.{is_unreadable}
 use Rattle.at_commands.proofs.EntryLemmas.{IsOfEntry}
-use Rattle.at_commands.specs.inside.Answering.{EndsPrinting, EndsRemoving}
+use Rattle.at_commands.specs.inside.RequestOutcome.{EndsPrinting, EndsRemoving}
 use Rattle.at_commands.specs.inside.Session.{IsNoOutput, IsSpoolCause}
 use Rattle.at_commands.specs.inside.Sessions.{ListsInSession, ShowsInSession, lists_alone}
 use Rattle.command_rules.proofs.CheckLemmas.{refused_up_to}
 use Rattle.at_commands.proofs.CarryLemmas.{carries_no_memory, carries_unsaid, done_allowed, no_true}
 use Rattle.at_commands.proofs.EndsLemmas.{ends_carried, ends_early}
-use Rattle.at_commands.proofs.UnreadLemmas.{silent}
+use Rattle.at_commands.proofs.UnreadLemmas.{unchecked}
 use Rattle.at_commands.proofs.ForLemmas.{carries_unentered, carries_unopened, keeps_lists, listing_lacks, listing_made, showing_done, showing_stopped}
 use Rattle.at_commands.proofs.SessionLemmas.{entry_of_spool, not_opened_of_spool, no_output_of_spool}
 use Rattle.at_commands.proofs.UserLemmas.{alone_is, user_fails, user_passes, zone_fails, zone_passes}
@@ -59,19 +59,19 @@ none_put at = record { content = sym (append-nil at.content); later = omega arit
 
 -- where the spool stopped the session
 spool_prints : (cause : Cause) (IsText : List ℕ → Type 0) (at : SinkAt) → IsSpoolCause cause → PrintsBy cause IsText at at
-spool_prints (Refused refusal) IsText at is = silent at
-spool_prints FileFault IsText at is = inl (silent at)
-spool_prints Busy IsText at is = silent at
-spool_prints Memory IsText at is = inl (silent at)
-spool_prints (Damaged damage) IsText at is = silent at
+spool_prints (Refused refusal) IsText at is = unchecked at
+spool_prints FileFault IsText at is = inl (unchecked at)
+spool_prints Busy IsText at is = unchecked at
+spool_prints Memory IsText at is = inl (unchecked at)
+spool_prints (Damaged damage) IsText at is = unchecked at
 spool_prints _ IsText at is = absurd is
 
 pub spool_notes : (cause : Cause) (IsLine : List ℕ → Type 0) (at : SinkAt) → IsSpoolCause cause → NotesBy cause IsLine at at
-spool_notes (Refused refusal) IsLine at is = silent at
-spool_notes FileFault IsLine at is = silent at
-spool_notes Busy IsLine at is = silent at
-spool_notes Memory IsLine at is = inl (silent at)
-spool_notes (Damaged damage) IsLine at is = silent at
+spool_notes (Refused refusal) IsLine at is = unchecked at
+spool_notes FileFault IsLine at is = unchecked at
+spool_notes Busy IsLine at is = unchecked at
+spool_notes Memory IsLine at is = inl (unchecked at)
+spool_notes (Damaged damage) IsLine at is = unchecked at
 spool_notes _ IsLine at is = absurd is
 
 -- by requests that print nothing, and by those that say nothing
@@ -83,19 +83,19 @@ module _ (tells alone : Bool) (asked : ToolRequest) (caller : Caller) (finding :
         [],
         (
           ends.0,
-          (carries.folder known is_alone).table ∙ ends.3.begun.shown,
+          (carries.directory known is_alone).table ∙ ends.3.begun.shown,
           done_allowed (spool_verdict asked caller (finding carries.allow carries.deny) carries.shown) carries.order,
           none ends.0,
         ),
         none_put at,
       )
-  prints_nothing (Refused refusal) carries none at known is_alone = silent at
-  prints_nothing FileFault carries none at known is_alone = inl (silent at)
-  prints_nothing InputFault carries none at known is_alone = silent at
-  prints_nothing OutputFault carries none at known is_alone = inl (silent at)
-  prints_nothing Busy carries none at known is_alone = silent at
-  prints_nothing Memory carries none at known is_alone = inl (silent at)
-  prints_nothing (Damaged damage) carries none at known is_alone = silent at
+  prints_nothing (Refused refusal) carries none at known is_alone = unchecked at
+  prints_nothing FileFault carries none at known is_alone = inl (unchecked at)
+  prints_nothing InputFault carries none at known is_alone = unchecked at
+  prints_nothing OutputFault carries none at known is_alone = inl (unchecked at)
+  prints_nothing Busy carries none at known is_alone = unchecked at
+  prints_nothing Memory carries none at known is_alone = inl (unchecked at)
+  prints_nothing (Damaged damage) carries none at known is_alone = unchecked at
   prints_nothing _ carries none at known is_alone = absurd carries.reach
 
   notes_nothing : (cause : Cause) (carries : Carries tells alone asked caller finding old new cause) → ((zone : Zone) (found : Found) (number : ℕ) → RequestSays asked zone found number []) →
@@ -108,13 +108,13 @@ module _ (tells alone : Bool) (asked : ToolRequest) (caller : Caller) (finding :
     ),
     none_put at,
   )
-  notes_nothing (Refused refusal) carries none at = silent at
-  notes_nothing FileFault carries none at = silent at
-  notes_nothing InputFault carries none at = silent at
-  notes_nothing OutputFault carries none at = inl (silent at)
-  notes_nothing Busy carries none at = silent at
-  notes_nothing Memory carries none at = inl (silent at)
-  notes_nothing (Damaged damage) carries none at = silent at
+  notes_nothing (Refused refusal) carries none at = unchecked at
+  notes_nothing FileFault carries none at = unchecked at
+  notes_nothing InputFault carries none at = unchecked at
+  notes_nothing OutputFault carries none at = inl (unchecked at)
+  notes_nothing Busy carries none at = unchecked at
+  notes_nothing Memory carries none at = inl (unchecked at)
+  notes_nothing (Damaged damage) carries none at = unchecked at
   notes_nothing _ carries none at = absurd carries.reach
 
 -- Sessions of requests that were not opened.
@@ -161,14 +161,14 @@ showing_unopened tells alone output asked caller old new at user cause same is =
 pub showing_of : (tells output : Bool) (numbers : List ℕ) (caller : Caller) (user : List ℕ) (same : caller.context.user ≡ user)
     (old middle new : World) (was is : SinkAt) (kept : Kept) (is_open : IsStoreOpened tells user old middle kept) → None ≡ jobs_check user false kept.table numbers →
     (tells ≡ true → new ≡ middle) → (result : Result (Unit {0}) CommandError) → IfErr result ComesOfShowing →
-    (tells ≡ true → output ≡ true → (table : JobTable) → IsCurrent kept middle.now.folder table → PutsScriptsBy (scripts_of table numbers) was is result) →
+    (tells ≡ true → output ≡ true → (table : JobTable) → IsCurrent kept middle.now.directory table → PutsScriptsBy (scripts_of table numbers) was is result) →
     ShowsInSession tells true output (request.Show numbers) caller old new was is result
 showing_of tells output numbers caller user same old middle new was is kept is_open none still (Ok value) comes puts =
     showing_done tells output numbers caller user same old middle new was is kept is_open none still puts
 showing_of tells output numbers caller user same old middle new was is kept is_open none still (Err stopped) comes puts =
     showing_stopped tells output numbers caller user same old middle new was is kept is_open none still stopped.cause comes puts
 
--- a text that is put at once fails at its output alone, or finds no memory
+-- a text that is put at once fails at its output alone, or runs out of memory
 pub puts_no_file_fault : (tells : Bool) (text : List ℕ) (old new : SinkAt) (cause : Cause) → PutsWhole tells text old new cause → cause ≢ FileFault
 puts_no_file_fault tells text old new cause puts same = subst (λ (of : Cause). PutsWhole tells text old new of) same puts
 
@@ -184,7 +184,7 @@ puts_after_lock tells text old new OutputFault puts stops = stops
 puts_after_lock tells text old new Memory puts stops = stops
 puts_after_lock tells text old new _ puts stops = puts
 
--- no listing is asked for
+-- no listing is requested
 no_listing : (asks : Bool) → asks ≡ false → asks ≡ true → ⊥
 no_listing asks none is = let no : false ≡ true = sym none ∙ is in cc
 
@@ -200,7 +200,7 @@ module _ (asked : ToolRequest) (caller : Caller) (tells : Telling) (at : Holding
       ends_early asked caller tells at at lists_alone keeps_lists (Refused refusal) (check_of refusal)
       (λ allow deny. subst (λ (of : Option Refusal). KeepsOrder of (Refused refusal)) (sym (verdict (lists_alone allow deny))) (inl refl)) tt refl ahead
       (λ allow deny. refused_up_to (early_verdict asked caller (lists_alone allow deny)) refusal (verdict (lists_alone allow deny)))
-      (λ allow deny known. sym (clock (check_of refusal))) (λ allow deny. finds (check_of refusal) (lists_alone allow deny)) refl (silent at.output) (silent at.errors)
+      (λ allow deny known. sym (clock (check_of refusal))) (λ allow deny. finds (check_of refusal) (lists_alone allow deny)) refl (unchecked at.output) (unchecked at.errors)
 
 first_refused : (refusal : Refusal) (later : List (Option Refusal)) (check : Option Refusal) → check ≡ Some refusal → first_refusal (check ∷ later) ≡ Some refusal
 first_refused refusal later check is = ap (λ (of : Option Refusal). first_refusal (of ∷ later)) is

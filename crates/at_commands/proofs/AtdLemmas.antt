@@ -1,4 +1,4 @@
--- A command that asks for a daemon.
+-- A command that requests a daemon.
 use Rattle.std.proofs.Common.{◌≡◌, Bool, false, [], ℕ, sym, refl, append-nil, arith}
 use Rattle.std.specs.Prelude.{Ok, Err, codes}
 use Rattle.at_words.specs.Answers.{Answers}
@@ -6,18 +6,18 @@ use Rattle.at_words.specs.declared.fault.WordsFault.{WordsFault}
 use Rattle.at_words.specs.declared.fault.WordsFault.TheVariants as words
 use Rattle.at_words.specs.declared.tool_request.ToolRequest.TheVariants as request
 use Rattle.command_rules.specs.Found.{Asked}
-use Rattle.cause_output.specs.Sinks.{SinkAt}
+use Rattle.tool_output.specs.Sinks.{SinkAt}
 use Rattle.daemon_turn.specs.Daemons.{DaemonState, new_daemon}
 use Rattle.listing_text.specs.declared.cause.Cause.{Cause}
 use Rattle.listing_text.specs.declared.cause.Cause.TheVariants.{Memory}
 use Rattle.serving.specs.Outcomes.{at_a_line}
-use Rattle.cause_output.specs.Saying.{IsSaid}
+use Rattle.tool_output.specs.SaidLines.{IsSaid}
 use Rattle.serving.specs.Serves.{ServeState, no_turn}
-use Rattle.cause_output.specs.Outside.{Telling}
-use Rattle.cause_output.proofs.EndLemmas.{silent_same}
+use Rattle.tool_output.specs.Outside.{Telling}
+use Rattle.tool_output.proofs.EndLemmas.{silent_same}
 use Rattle.at_commands.specs.Served.{IsNotServed, ServesAnew, WhereServed}
 
--- where no daemon is asked for, nothing is said of one
+-- where no daemon is requested, nothing is said of one
 pub none_served : (asked : Asked) (IsSo : ℕ → ℕ → Bool → ℕ → Type 0) → IsNotServed asked → WhereServed asked IsSo
 none_served (Ok (request.Submit queue mail file when)) IsSo is = tt
 none_served (Ok (request.List filter)) IsSo is = tt

@@ -12,15 +12,15 @@ use Rattle.host_calls.specs.Sink.{Outlet}
 use Rattle.listing_text.specs.declared.cause.Cause.{Cause}
 use Rattle.listing_text.specs.declared.cause.Cause.TheVariants.{Refused, FileFault, InputFault, OutputFault, Busy, Memory, StillRunning}
 use Rattle.listing_text.specs.declared.refusal.Refusal.TheVariants.{BadQueue, Usage}
-use Rattle.cause_output.specs.declared.caller.Caller.{Caller}
+use Rattle.tool_output.specs.declared.caller.Caller.{Caller}
 use Rattle.command_rules.specs.Ends.{CommandEnds, FailsToPrint, KeepsOrder, Reaches, StopsBeforeLock}
-use Rattle.cause_output.specs.Outside.{Holding, OutsideAt, Telling}
+use Rattle.tool_output.specs.Outside.{Holding, OutsideAt, Telling}
 use Rattle.command_rules.specs.Found.{Asked}
-use Rattle.cause_output.specs.Sinks.{NotesBy, SinkAt}
+use Rattle.tool_output.specs.Sinks.{NotesBy, SinkAt}
 use Rattle.command_rules.specs.Verdict.{verdict_of}
 use Rattle.serving.specs.Outside.{EndsOutside}
 use Rattle.at_commands.specs.Outside.{HasRisenAsked}
-use Rattle.cause_output.specs.Causes.{words_cause}
+use Rattle.tool_output.specs.Causes.{words_cause}
 use Rattle.at_commands.proofs.UnreadLemmas.{ends_at_words}
 use Rattle.at_commands.proofs.LateLemmas.{any_memory}
 use Rattle.host_calls.specs.Inputs.{AreReadAtMostOnce, Sources}
@@ -36,7 +36,7 @@ words_come words.Usage = tt
 words_come words.BadQueue = tt
 words_come words.Memory = tt
 
--- a command whose words ask for nothing
+-- a command whose words request nothing
 pub words_end : (asked : Asked) (caller : Caller) (tells : Telling) (at : Holding) (fault : WordsFault) → Answers asked (Err fault) →
     CommandEnds NotesBy asked caller tells at at (words_cause fault)
 words_end asked caller tells at words.Usage is =
@@ -52,7 +52,7 @@ words_end asked caller tells at words.Memory is =
 pub make_ends : (count : ℕ) (caller : Caller) (tells : Telling) (at : Holding) → CommandEnds NotesBy (Ok (request.Make count)) caller tells at at (Refused Usage)
 make_ends count caller tells at = ends_at_words (Ok (request.Make count)) caller tells at (Refused Usage) tt refl (λ found shown. inl refl)
 
--- What is asked for, by another name.
+-- What is requested, by another name.
 
 pub ends_asked : (one other : Asked) (caller : Caller) (tells : Telling) (before after : Holding) (cause : Cause) → one ≡ other →
     CommandEnds NotesBy one caller tells before after cause → CommandEnds NotesBy other caller tells before after cause
@@ -75,7 +75,7 @@ fails_later (Ok (request.Daemon limit interval once turns)) out_old out_new err_
 fails_later (Ok (request.Make count)) out_old out_new err_old err_middle err_new later fails = fails
 fails_later (Err fault) out_old out_new err_old err_middle err_new later fails = fails
 
--- the cause that is answered is the one that was had, or want of memory
+-- the cause that is answered is the one that was had, or an out-of-memory error
 pub cause_had : (final cause fault : Cause) → (final ≡ cause) ⊎ (final ≡ Memory) → (Memory ≡ fault → ⊥) → final ≡ fault → cause ≡ fault
 cause_had final cause fault either other is = elim either [
   | inl same ↦ sym same ∙ is
@@ -111,7 +111,7 @@ left_same session outside = record {
   counts = record { made_as = refl; file_faults = omega arith; start_faults = omega arith; taken = omega arith };
 }
 
--- Words that ask for nothing end with no fault of the outside.
+-- Words that request nothing end with no fault of the outside.
 words_final : (fault : WordsFault) (final : Cause) → (final ≡ words_cause fault) ⊎ (final ≡ Memory) → IsOfWords final
 words_final fault final either = elim either [
   | inl same ↦ subst (λ (of : Cause). IsOfWords of) (sym same) (words_come fault)

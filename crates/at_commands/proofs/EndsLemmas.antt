@@ -16,28 +16,28 @@ use Rattle.spool_model.specs.declared.step.Step.{Step}
 use Rattle.spool_model.specs.JobTable.{JobTable}
 use Rattle.spool_shows.specs.Shown.{shown_by}
 use Rattle.step_runs.specs.Attempts.{Achieves}
-use Rattle.cause_output.specs.declared.caller.Caller.{Caller}
+use Rattle.tool_output.specs.declared.caller.Caller.{Caller}
 use Rattle.command_rules.specs.Checks.{Check, ComesUpTo, check_of, is_earlier_check, of_lock, place_of_check}
 use Rattle.command_rules.specs.Ends.{CommandEnds, IsNoRefusal, KeepsOrder, Reaches}
-use Rattle.cause_output.specs.Outside.{Holding, Telling}
+use Rattle.tool_output.specs.Outside.{Holding, Telling}
 use Rattle.command_rules.specs.Found.{Asked, Finds, Found, allow_file, answers_read, deny_file, is_listing}
-use Rattle.at_commands.specs.inside.Carrying.{AreUnrefusedSteps, Carries, Finding, IsSessionLine, IsSessionText}
+use Rattle.at_commands.specs.inside.SessionOutcome.{AreUnrefusedSteps, Carries, Finding, IsSessionLine, IsSessionText}
 use Rattle.command_rules.specs.Requested.{AreAskedSteps, AreNoSteps, IsAskedLine, IsAskedText}
-use Rattle.cause_output.specs.Sinks.{EndsLine, IsPutInPart, IsPutOrCut, IsSilent, NotesBy, PrintsBy, PutsCut, PutsPart, SaysBy, SinkAt, HasBytes}
+use Rattle.tool_output.specs.Sinks.{EndsLine, IsPutInPart, IsPutOrCut, IsSilent, NotesBy, PrintsBy, PutsCut, PutsPart, SaysBy, SinkAt, HasBytes}
 use Rattle.command_rules.specs.Spool.{SpoolEnds}
 use Rattle.command_rules.specs.Verdict.{early_verdict, first_refusal, spool_verdict, verdict_of}
 use Rattle.command_rules.proofs.SpoolLemmas.{attempt_of, unbegun_same}
-use Rattle.cause_output.specs.Saying.{IsSaid, IsFailure, SaysLine}
+use Rattle.tool_output.specs.SaidLines.{IsSaid, IsFailure, SaysLine}
 use Rattle.at_commands.proofs.CarryLemmas.{KeepsLists, ends_map}
 use Rattle.at_commands.proofs.LateLemmas.{any_memory, late_input, late_up_to, spool_late}
 
 -- Texts of one kind that are texts of another.
 module _ (A B : List ℕ → Type 0) (all : (text : List ℕ) → A text → B text) (old new : SinkAt) where
   part_map : PutsPart A old new → PutsPart B old new
-  part_map puts = elim puts [ inl silent ↦ inl silent | inr part ↦ inr (part.0, all part.0 part.1, part.2) ]
+  part_map puts = elim puts [ inl unchecked ↦ inl unchecked | inr part ↦ inr (part.0, all part.0 part.1, part.2) ]
 
   cut_map : PutsCut A old new → PutsCut B old new
-  cut_map puts = elim puts [ inl silent ↦ inl silent | inr cut ↦ inr (cut.0, all cut.0 cut.1, cut.2) ]
+  cut_map puts = elim puts [ inl unchecked ↦ inl unchecked | inr cut ↦ inr (cut.0, all cut.0 cut.1, cut.2) ]
 
   pub prints_map : (cause : Cause) → PrintsBy cause A old new → PrintsBy cause B old new
   prints_map Done prints = (prints.0, all prints.0 prints.1, prints.2)
@@ -86,7 +86,7 @@ module _ (asked : ToolRequest) (caller : Caller) (tells : Telling) (before after
     up_to = subst (λ (of : Option Refusal). ComesUpTo of carries.reached) (sym (verdict_late asked caller found carries.shown none)) carries.up_to;
     clock = clock;
     finds = finds;
-    folder = carries.folder;
+    directory = carries.directory;
     apart = carries.apart;
     spool = λ known is_alone. ends_map (AreUnrefusedSteps asked caller found) (AreAskedSteps (Ok asked) caller found)
         (λ table steps are. record { none = verdict_late asked caller found (Ok table) none ∙ are.none; steps_are = are.steps_are })
@@ -131,32 +131,32 @@ up_to_early None asked caller found shown reached ahead up_to =
 pub no_true : false ≡ true → ⊥
 no_true is = cc
 
--- a check before the lock is not after the folder
-before_folder : (place : ℕ) → nat_lt place 11 ≡ true → nat_lt 14 place ≡ false
-before_folder place is = grind (arith, nat_tests)
+-- a check before the lock is not after the directory
+before_directory : (place : ℕ) → nat_lt place 11 ≡ true → nat_lt 14 place ≡ false
+before_directory place is = grind (arith, nat_tests)
 
 -- a command that stopped before the spool was entered leaves it as it was
 pub untouched : (AreSteps : JobTable → List Step → Type 0) (old new : World) (cause : Cause) (reached : Check) → IsEarly cause → Reaches cause reached →
     is_earlier_check reached of_lock ≡ true → new ≡ old → SpoolEnds AreSteps old new cause
 untouched AreSteps old new (Refused refusal) reached early reach before same =
     subst (λ (beyond : Bool). MatchBool beyond (Achieves AreNoSteps old new) (new ≡ old))
-    (sym (before_folder (place_of_check (check_of refusal)) (subst (λ (of : Check). is_earlier_check of of_lock ≡ true) reach before))) same
+    (sym (before_directory (place_of_check (check_of refusal)) (subst (λ (of : Check). is_earlier_check of of_lock ≡ true) reach before))) same
 untouched AreSteps old new InputFault reached early reach before same = same
 untouched AreSteps old new Memory reached early reach before same = inl (unbegun_same old new same)
 untouched AreSteps old new _ reached early reach before same = absurd early
 
 -- nothing was put where nothing changed
 pub silent_prints : (cause : Cause) (IsText : List ℕ → Type 0) (old new : SinkAt) → IsEarly cause → IsSilent old new → PrintsBy cause IsText old new
-silent_prints (Refused refusal) IsText old new early silent = silent
-silent_prints InputFault IsText old new early silent = silent
-silent_prints Memory IsText old new early silent = inl silent
-silent_prints _ IsText old new early silent = absurd early
+silent_prints (Refused refusal) IsText old new early unchecked = unchecked
+silent_prints InputFault IsText old new early unchecked = unchecked
+silent_prints Memory IsText old new early unchecked = inl unchecked
+silent_prints _ IsText old new early unchecked = absurd early
 
 pub silent_notes : (cause : Cause) (IsLine : List ℕ → Type 0) (old new : SinkAt) → IsEarly cause → IsSilent old new → NotesBy cause IsLine old new
-silent_notes (Refused refusal) IsLine old new early silent = silent
-silent_notes InputFault IsLine old new early silent = silent
-silent_notes Memory IsLine old new early silent = inl silent
-silent_notes _ IsLine old new early silent = absurd early
+silent_notes (Refused refusal) IsLine old new early unchecked = unchecked
+silent_notes InputFault IsLine old new early unchecked = unchecked
+silent_notes Memory IsLine old new early unchecked = inl unchecked
+silent_notes _ IsLine old new early unchecked = absurd early
 
 -- a command that stopped before the spool was entered, its words read
 pub ends_early : (asked : ToolRequest) (caller : Caller) (tells : Telling) (before after : Holding) (finding : Finding) (keeps : KeepsLists finding)
@@ -167,7 +167,7 @@ pub ends_early : (asked : ToolRequest) (caller : Caller) (tells : Telling) (befo
     ((allow deny : Option (List ℕ)) → Finds tells.input (Ok asked) caller.zone before.contents reached (finding allow deny)) →
     after.spool ≡ before.spool → IsSilent before.output after.output → IsSilent before.errors after.errors →
     CommandEnds NotesBy (Ok asked) caller tells before after cause
-ends_early asked caller tells before after finding keeps cause reached order early reach ahead up_to clock finds same silent quiet =
+ends_early asked caller tells before after finding keeps cause reached order early reach ahead up_to clock finds same unchecked quiet =
     let allow : Option (List ℕ) = finite.get (reading before.spool) allow_file in
     let deny : Option (List ℕ) = finite.get (reading before.spool) deny_file in
     let shown : Result JobTable Damage = shown_by (reading before.spool) in
@@ -180,10 +180,10 @@ ends_early asked caller tells before after finding keeps cause reached order ear
       up_to = up_to_early (early_verdict asked caller (finding allow deny)) asked caller (finding allow deny) shown reached ahead (up_to allow deny);
       clock = clock allow deny;
       finds = finds allow deny;
-      folder = λ known is_alone. record { allow = keeps.allow_is allow deny; deny = keeps.deny_is allow deny; table = refl };
+      directory = λ known is_alone. record { allow = keeps.allow_is allow deny; deny = keeps.deny_is allow deny; table = refl };
       apart = λ known is_alone is. same;
       spool = λ known is_alone. untouched (AreAskedSteps (Ok asked) caller (finding allow deny)) before.spool after.spool cause reached early reach ahead same;
-      prints = λ known is_alone tells_output. silent_prints cause (IsAskedText (Ok asked) caller (finding allow deny) shown) before.output after.output early silent;
+      prints = λ known is_alone tells_output. silent_prints cause (IsAskedText (Ok asked) caller (finding allow deny) shown) before.output after.output early unchecked;
       listed = λ known is_alone is same. absurd (subst (λ (of : Cause). IsEarly of) same early);
       notes = λ tells_errors. silent_notes cause (IsAskedLine (Ok asked) caller (finding allow deny) shown) before.errors after.errors early quiet;
     }
@@ -207,7 +207,7 @@ module _ (tool : List ℕ) (IsLine : List ℕ → Type 0) (old between new : Sin
   line_said Memory says = in_part (cause_line_of tool Memory) between new says
   line_said _ says = says
 
-  -- what was said before a line that finds no memory
+  -- what was said before a line that runs out of memory
   notes_no_memory : (cause : Cause) → IsFailure cause → NotesBy cause IsLine old between → NotesBy Memory IsLine old between
   notes_no_memory OutputFault undone notes = notes
   notes_no_memory Memory undone notes = notes
@@ -226,7 +226,7 @@ module _ (tool : List ℕ) (IsLine : List ℕ → Type 0) (old between new : Sin
   says_none cause undone notes quiet =
       record { between = between; notice = notes_no_memory cause undone notes; line = none_in_part (cause_line_of tool Memory) between new quiet }
 
--- what is printed before a line that finds no memory
+-- what is printed before a line that runs out of memory
 prints_no_memory : (cause : Cause) (IsText : List ℕ → Type 0) (old new : SinkAt) → IsFailure cause → PrintsBy cause IsText old new → PrintsBy Memory IsText old new
 prints_no_memory OutputFault IsText old new undone prints = prints
 prints_no_memory Memory IsText old new undone prints = prints
@@ -242,7 +242,7 @@ prints_no_memory _ IsText old new undone prints = absurd prints
 abbrev pub with_errors : Holding → SinkAt → Holding
 with_errors at errors = record { spool = at.spool; answers = at.answers; contents = at.contents; output = at.output; errors = errors }
 
--- A command whose cause was said, or found no memory.
+-- A command whose cause was said, or ran out of memory.
 module _ (tool : List ℕ) (asked : Asked) (caller : Caller) (tells : Telling) (before after : Holding) (between : SinkAt) (cause : Cause)
     (ends : CommandEnds NotesBy asked caller tells before (with_errors after between) cause) where
   ends_as_is : (tells.errors ≡ true → SaysLine tool cause between after.errors) → CommandEnds (SaysBy tool) asked caller tells before after cause
@@ -255,7 +255,7 @@ module _ (tool : List ℕ) (asked : Asked) (caller : Caller) (tells : Telling) (
     up_to = ends.up_to;
     clock = ends.clock;
     finds = ends.finds;
-    folder = ends.folder;
+    directory = ends.directory;
     apart = ends.apart;
     spool = ends.spool;
     prints = ends.prints;
@@ -273,7 +273,7 @@ module _ (tool : List ℕ) (asked : Asked) (caller : Caller) (tells : Telling) (
     up_to = ends.up_to;
     clock = ends.clock;
     finds = ends.finds;
-    folder = ends.folder;
+    directory = ends.directory;
     apart = ends.apart;
     spool = λ known is_alone. attempt_of (AreAskedSteps asked caller ends.found) before.spool after.spool cause (ends.spool known is_alone);
     prints = λ known is_alone tells_output.

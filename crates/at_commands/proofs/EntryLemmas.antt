@@ -4,9 +4,9 @@ use Rattle.host_calls.specs.declared.fault.EnterFault.{EnterFault}
 use Rattle.host_calls.specs.declared.fault.EnterFault.TheVariants as entry
 use Rattle.listing_text.specs.declared.cause.Cause.{Cause}
 use Rattle.listing_text.specs.declared.cause.Cause.TheVariants.{FileFault, InputFault, OutputFault, Busy, Memory}
-use Rattle.cause_output.specs.Causes.{cause_of_entry}
+use Rattle.tool_output.specs.Causes.{cause_of_entry}
 
--- a fault of a file, a lock that is taken, or want of memory
+-- a fault of a file, a lock that is taken, or an out-of-memory error
 abbrev pub IsOfEntry : Cause → Type 0
 IsOfEntry FileFault = Unit {0}
 IsOfEntry Busy = Unit {0}

@@ -11,7 +11,7 @@ use Rattle.step_runs.specs.Current.{IsCurrent, Kept}
 use Rattle.step_runs.specs.Made.{AreMade}
 use Rattle.step_runs.proofs.ListLemmas.{lists_as_on_the_table}
 use Rattle.step_runs.proofs.MadeLemmas.{no_steps_are_made}
-use Rattle.job_removal.specs.Removing.{AreRemoval, ComesOfRemoving, IsRemovalCause}
+use Rattle.at_commands.specs.Removal.{AreRemoval, ComesOfRemoving, IsRemovalCause}
 use Rattle.job_listing.specs.Scripts.{IsOfShowing}
 use Rattle.listing_text.specs.declared.cause.Cause.{Cause}
 use Rattle.listing_text.specs.declared.cause.Cause.TheVariants.{Done, Refused, FileFault, OutputFault, Memory}
@@ -21,14 +21,14 @@ use Rattle.spool_model.specs.declared.row.Row.{Row}
 use Rattle.spool_model.specs.declared.step.Step.{Step}
 use Rattle.spool_model.specs.JobTable.{JobTable}
 use Rattle.spool_model.specs.Lists.{live_rows}
-use Rattle.cause_output.specs.declared.caller.Caller.{Caller}
-use Rattle.cause_output.specs.declared.command_error.CommandError.{CommandError}
-use Rattle.cause_output.specs.Causes.{cause_in, error_of}
+use Rattle.tool_output.specs.declared.caller.Caller.{Caller}
+use Rattle.tool_output.specs.declared.command_error.CommandError.{CommandError}
+use Rattle.tool_output.specs.Causes.{cause_in, error_of}
 use Rattle.command_rules.specs.Found.{Found}
-use Rattle.at_commands.specs.inside.Carrying.{AreWorkSteps, Carries, IsSessionText}
+use Rattle.at_commands.specs.inside.SessionOutcome.{AreWorkSteps, Carries, IsSessionText}
 use Rattle.command_rules.specs.Requested.{passes_of, scripts_of, steps_of_request}
 use Rattle.command_rules.specs.Sessions.{IsKeptOf, IsNotOpened, IsStoreOpened, IsWorkedOut, CommandWorks}
-use Rattle.cause_output.specs.Sinks.{IsPut, IsPutInPart, IsSilent, PutsPart, SinkAt}
+use Rattle.tool_output.specs.Sinks.{IsPut, IsPutInPart, IsSilent, PutsPart, SinkAt}
 use Rattle.command_rules.specs.Verdict.{filter_check, jobs_check, table_verdict}
 use Rattle.at_commands.proofs.EntryLemmas.{IsOfEntry}
 use Rattle.at_commands.specs.inside.Sessions.{ListsInSession, ShowsInSession, lists_alone}
@@ -121,7 +121,7 @@ module _ (tells alone : Bool) (asked : ToolRequest) (caller : Caller) (user : Li
 
 -- Removals.
 
--- a removal is done, or a fault of a file or want of memory comes
+-- a removal is done, or a fault of a file or an out-of-memory error comes
 abbrev pub IsOfRemoval : Cause → Type 0
 IsOfRemoval Done = Unit {0}
 IsOfRemoval FileFault = Unit {0}
@@ -162,7 +162,7 @@ module _ (tells alone : Bool) (numbers : List ℕ) (caller : Caller) (user : Lis
       (as_opened tells user caller.context.user old middle kept same is_open) (removal_decides None none) (removal_works none Done works)
   removal_by _ none of_work works = absurd of_work
 
--- a removal is done, or stopped by a fault of a file or want of memory
+-- a removal is done, or stopped by a fault of a file or an out-of-memory error
 pub removal_comes : (result : Result (Unit {0}) CommandError) → IfErr result ComesOfRemoving → IsOfRemoval (cause_in result)
 removal_comes (Ok value) comes = tt
 removal_comes (Err stopped) comes = by_cause stopped.cause comes where
@@ -245,9 +245,9 @@ module _ (tells output : Bool) (numbers : List ℕ) (caller : Caller) (user : Li
 
   pub showing_refused : (refusal : Refusal) → Some refusal ≡ jobs_check user false kept.table numbers → (tells ≡ true → new ≡ middle) → IsSilent was is →
       ShowsInSession tells true output (request.Show numbers) caller old new was is (Err (error_of (Refused refusal)))
-  showing_refused refusal says still silent = record {
+  showing_refused refusal says still unchecked = record {
     carries = carries_refused tells true (request.Show numbers) caller user same old middle new kept is_open refusal (showing_decides (Some refusal) says) still;
-    prints = λ known is_alone tells_output. silent;
+    prints = λ known is_alone tells_output. unchecked;
   }
 
   module _ (none : None ≡ jobs_check user false kept.table numbers) (still : tells ≡ true → new ≡ middle) where
@@ -263,7 +263,7 @@ module _ (tells output : Bool) (numbers : List ℕ) (caller : Caller) (user : Li
       refl,
     )
 
-    pub showing_done : (tells ≡ true → output ≡ true → (table : JobTable) → IsCurrent kept middle.now.folder table → IsPut (scripts_of table numbers) was is) →
+    pub showing_done : (tells ≡ true → output ≡ true → (table : JobTable) → IsCurrent kept middle.now.directory table → IsPut (scripts_of table numbers) was is) →
         ShowsInSession tells true output (request.Show numbers) caller old new was is (Ok tt)
     showing_done puts = record {
       carries = carries_still tells true (request.Show numbers) caller user same old middle new kept is_open (λ table. refl) allowed still;
@@ -272,13 +272,13 @@ module _ (tells output : Bool) (numbers : List ℕ) (caller : Caller) (user : Li
     }
 
     -- the scripts stopped on the way
-    showing_part : (tells ≡ true → output ≡ true → (table : JobTable) → IsCurrent kept middle.now.folder table → IsPutInPart (scripts_of table numbers) was is) →
+    showing_part : (tells ≡ true → output ≡ true → (table : JobTable) → IsCurrent kept middle.now.directory table → IsPutInPart (scripts_of table numbers) was is) →
         tells ≡ true → output ≡ true → PutsPart (IsSessionText (request.Show numbers) caller (lists_alone is_open.allow is_open.deny) (Ok is_open.table)) was is
     showing_part puts known tells_output =
         inr (scripts_of is_open.table numbers, shows_text, puts known tells_output is_open.table (is_open.recovered known).current)
 
     pub showing_stopped : (cause : Cause) → IsOfShowing cause →
-        (tells ≡ true → output ≡ true → (table : JobTable) → IsCurrent kept middle.now.folder table → IsPutInPart (scripts_of table numbers) was is) →
+        (tells ≡ true → output ≡ true → (table : JobTable) → IsCurrent kept middle.now.directory table → IsPutInPart (scripts_of table numbers) was is) →
         ShowsInSession tells true output (request.Show numbers) caller old new was is (Err (error_of cause))
     showing_stopped FileFault of_showing puts = record {
       carries = carries_failing tells true (request.Show numbers) caller user same old middle new kept is_open allowed still;

@@ -1,4 +1,4 @@
--- What stands after a session, by what its work came to.
+-- What is after a session, by what its work came to.
 use Rattle.std.proofs.Common.{◌≡◌, ◌≢◌, Bool, true, List, ℕ, sym, subst, inl, inr}
 use Rattle.std.specs.Prelude.{Result, Err, IfErr, IsErrOf}
 use Rattle.std.specs.Fn.{CalledAtMut}
@@ -6,18 +6,18 @@ use Rattle.at_words.specs.declared.tool_request.ToolRequest.{ToolRequest}
 use Rattle.at_words.specs.declared.tool_request.ToolRequest.TheVariants as request
 use Rattle.host_calls.specs.declared.fault.EnterFault.{EnterFault}
 use Rattle.host_calls.specs.declared.host.Host.{Ghosts}
-use Rattle.host_session.specs.Work.{Calls}
+use Rattle.host_calls.specs.SessionWork.{Calls}
 use Rattle.listing_text.specs.declared.cause.Cause.TheVariants.{InputFault, OutputFault}
-use Rattle.cause_output.specs.declared.caller.Caller.{Caller}
-use Rattle.cause_output.specs.declared.command_error.CommandError.{CommandError}
-use Rattle.cause_output.specs.Causes.{cause_in, cause_of_entry, error_of}
+use Rattle.tool_output.specs.declared.caller.Caller.{Caller}
+use Rattle.tool_output.specs.declared.command_error.CommandError.{CommandError}
+use Rattle.tool_output.specs.Causes.{cause_in, cause_of_entry, error_of}
 use Rattle.command_rules.specs.Found.{found_of}
-use Rattle.cause_output.specs.Sinks.{SinkAt}
+use Rattle.tool_output.specs.Sinks.{SinkAt}
 use Rattle.spool_session.specs.Sessions.{ComesOfSession, EndsCommandSession}
-use Rattle.at_commands.specs.inside.Carrying.{Carries}
+use Rattle.at_commands.specs.inside.SessionOutcome.{Carries}
 use Rattle.at_commands.specs.inside.Session.{IsNoOutput}
 use Rattle.at_commands.specs.inside.Sessions.{ListsInSession, ShowsInSession, lists_alone}
-use Rattle.at_commands.specs.inside.Storing.{Stores, StoresJob}
+use Rattle.at_commands.specs.inside.StoredJob.{Stores, StoresJob}
 use Rattle.at_commands.proofs.AnswerLemmas.{listing_unentered, showing_unentered}
 use Rattle.at_commands.proofs.CarryLemmas.{carries_within}
 use Rattle.at_commands.proofs.EntryLemmas.{entry_comes, entry_no_input, entry_no_output}

@@ -19,7 +19,7 @@ use Rattle.spool_shows.proofs.Membership.{Has}
 use Rattle.spool_store.specs.Listed.{IsLive}
 use Rattle.command_rules.specs.Requested.{removes}
 use Rattle.command_rules.specs.Verdict.{jobs_check, live_row, row_check}
-use Rattle.job_removal.proofs.LegalLemmas.{removes_legal}
+use Rattle.at_commands.proofs.LegalLemmas.{removes_legal}
 use Rattle.step_runs.proofs.ApartLemmas.{Apart}
 use Rattle.at_commands.proofs.UserLemmas.{first_passed}
 

@@ -16,8 +16,8 @@ use Rattle.spool_model.specs.declared.number.TheConstants.{LAST_NUMBER}
 use Rattle.spool_model.specs.declared.row.Row.{Row}
 use Rattle.spool_model.specs.JobTable.{JobTable}
 use Rattle.spool_model.specs.declared.row.TheConstants.{MAX_LIVE}
-use Rattle.cause_output.specs.declared.caller.Caller.{Caller}
-use Rattle.command_rules.specs.Checks.{Check, ComesUpTo, check_of, is_earlier_check, of_folder, of_input, of_lists, of_lock, place_of_check}
+use Rattle.tool_output.specs.declared.caller.Caller.{Caller}
+use Rattle.command_rules.specs.Checks.{Check, ComesUpTo, check_of, is_earlier_check, of_spool, of_input, of_lists, of_lock, place_of_check}
 use Rattle.command_rules.specs.Ends.{KeepsOrder}
 use Rattle.command_rules.specs.Found.{Found}
 use Rattle.command_rules.specs.Verdict.{first_refusal, jobs_check, number_check, room_check, live_row, row_check, spool_verdict, table_verdict}
@@ -34,7 +34,7 @@ AllLate (Some refusal) = IsLate (check_of refusal)
 -- a check on the table
 abbrev pub OnTable : Option Refusal → Type 0
 OnTable None = Unit {0}
-OnTable (Some refusal) = IsLate (check_of refusal) × (is_earlier_check of_folder (check_of refusal) ≡ true)
+OnTable (Some refusal) = IsLate (check_of refusal) × (is_earlier_check of_spool (check_of refusal) ≡ true)
 
 at_test : (test : Bool) (refusal : Refusal) → OnTable (Some refusal) → OnTable (cond test (Some refusal) None)
 at_test true refusal on = on
@@ -127,8 +127,8 @@ not_at_lock place late = grind (arith, nat_tests)
 not_at_lists : (place : ℕ) → nat_lt 11 place ≡ true → nat_lt place 12 ≡ false
 not_at_lists place late = grind (arith, nat_tests)
 
-not_at_folder : (place : ℕ) → nat_lt 14 place ≡ true → nat_lt place 14 ≡ false
-not_at_folder place after = grind (arith, nat_tests)
+not_at_directory : (place : ℕ) → nat_lt 14 place ≡ true → nat_lt place 14 ≡ false
+not_at_directory place after = grind (arith, nat_tests)
 
 pub late_up_to : (verdict : Option Refusal) (reached : Check) → AllLate verdict → is_earlier_check reached of_lock ≡ true → ComesUpTo verdict reached
 late_up_to None reached late ahead = tt
@@ -142,9 +142,9 @@ pub late_up_to_lists : (verdict : Option Refusal) → AllLate verdict → ComesU
 late_up_to_lists None late = tt
 late_up_to_lists (Some refusal) late = not_at_lists (place_of_check (check_of refusal)) late.lock
 
-pub table_up_to_folder : (verdict : Option Refusal) → OnTable verdict → ComesUpTo verdict of_folder
-table_up_to_folder None on = tt
-table_up_to_folder (Some refusal) on = not_at_folder (place_of_check (check_of refusal)) on.1
+pub table_up_to_directory : (verdict : Option Refusal) → OnTable verdict → ComesUpTo verdict of_spool
+table_up_to_directory None on = tt
+table_up_to_directory (Some refusal) on = not_at_directory (place_of_check (check_of refusal)) on.1
 
 -- where the lists permit the user, the table decides
 pub permitted : (asked : ToolRequest) (caller : Caller) (found : Found) (shown : Result JobTable Damage) →

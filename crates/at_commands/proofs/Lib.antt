@@ -10,7 +10,9 @@ pub mod InSessionLemmas
 pub mod JobsLemmas
 pub mod KeptLemmas
 pub mod LateLemmas
+pub mod LegalLemmas
 pub mod PreparedLemmas
+pub mod RemoveLemmas
 pub mod ServedLemmas
 pub mod SessionLemmas
 pub mod SubmitLemmas

@@ -13,25 +13,25 @@ use Rattle.listing_text.specs.declared.cause.Cause.{Cause}
 use Rattle.listing_text.specs.declared.cause.Cause.TheVariants.{Done, Refused, InputFault, OutputFault, Memory}
 use Rattle.listing_text.specs.declared.refusal.Refusal.{Refusal}
 use Rattle.spool_model.specs.Users.{IsUserName}
-use Rattle.cause_output.specs.declared.caller.Caller.{Caller}
-use Rattle.cause_output.specs.declared.command_error.CommandError.{CommandError}
+use Rattle.tool_output.specs.declared.caller.Caller.{Caller}
+use Rattle.tool_output.specs.declared.command_error.CommandError.{CommandError}
 use Rattle.command_rules.specs.Checks.{Check, is_earlier_check, of_input, of_lock, of_variables, of_zone, place_of_check}
-use Rattle.cause_output.specs.Outside.{holding, telling}
+use Rattle.tool_output.specs.Outside.{holding, telling}
 use Rattle.command_rules.specs.Found.{FindsInput, Found, answers_read, found_of}
-use Rattle.at_commands.specs.inside.Carrying.{Finding, IsSessionLine}
+use Rattle.at_commands.specs.inside.SessionOutcome.{Finding, IsSessionLine}
 use Rattle.command_rules.specs.Requested.{IsAcceptedLine}
-use Rattle.cause_output.specs.Sinks.{IsSilent, SinkAt}
+use Rattle.tool_output.specs.Sinks.{IsSilent, SinkAt}
 use Rattle.command_rules.specs.Times.{minute_in}
 use Rattle.command_rules.specs.Verdict.{clock_check, directory_check, length_check, spool_verdict, time_check, user_check, variables_check, zone_check}
 use Rattle.submission_checks.specs.declared.submission.Submission.{Submission}
-use Rattle.submission_checks.specs.Preparing.{IsOfPreparing, IsPrepared, IsStoppedEarly, Prepares}
-use Rattle.at_commands.specs.inside.Answering.{Held, SubmissionEnds, SubmissionTelling}
-use Rattle.at_commands.specs.inside.Saying.{Accepts}
+use Rattle.submission_checks.specs.EarlyChecks.{IsOfPreparing, IsPrepared, IsStoppedEarly, Prepares}
+use Rattle.at_commands.specs.inside.RequestOutcome.{Held, SubmissionEnds, SubmissionTelling}
+use Rattle.at_commands.specs.inside.AcceptedLine.{Accepts}
 use Rattle.at_commands.specs.inside.Session.{IsNoOutput}
-use Rattle.at_commands.specs.inside.Storing.{AnswersJob, IsJobOf, Stores, StoresAndSays}
+use Rattle.at_commands.specs.inside.StoredJob.{AnswersJob, IsJobOf, Stores, StoresAndSays}
 use Rattle.at_commands.proofs.CarryLemmas.{KeepsLists, carries_no_memory, carries_unsaid, done_allowed}
 use Rattle.at_commands.proofs.EndsLemmas.{IsEarly, ends_carried, ends_early}
-use Rattle.at_commands.proofs.UnreadLemmas.{silent}
+use Rattle.at_commands.proofs.UnreadLemmas.{unchecked}
 use Rattle.at_commands.proofs.SubmitLemmas.{has_header}
 use Rattle.at_commands.proofs.UserLemmas.{first_passed, user_passed, zone_passed}
 use Rattle.at_commands.proofs.AnswerLemmas.{prints_nothing, spool_notes}
@@ -83,7 +83,7 @@ early_of InputFault is = tt
 early_of Memory is = tt
 early_of _ is = absurd is
 
--- what stands after the lock stands after the clock
+-- what is after the lock stands after the clock
 late_place : (place : ℕ) → nat_lt place 11 ≡ false → nat_lt 4 place ≡ true
 late_place place is = grind (arith, nat_tests)
 
@@ -100,7 +100,7 @@ module _ (tells : SubmissionTelling) (queue : ℕ) (mail : Bool) (file : Option 
       (holding before.spool before.answers before.contents printed before.sink) (holding after.spool after.answers after.contents printed after.sink)
       (found_of prepares.now prepares.time prepares.commands) (finding_keeps prepares.now prepares.time prepares.commands) stopped.cause prepares.reached
       (λ allow deny. ends.order) (early_of stopped.cause ends.comes) ends.reach ends.early (λ allow deny. ends.up_to) (λ allow deny. prepares.clock)
-      (λ allow deny. record { time = prepares.finds.time; commands = prepares.finds.commands }) same (silent printed) quiet
+      (λ allow deny. record { time = prepares.finds.time; commands = prepares.finds.commands }) same (unchecked printed) quiet
 
   module _ (submission : Submission)
       (prepares : Prepares tells.clock tells.input caller mail file when before.answers after.answers before.contents (Ok submission)) where

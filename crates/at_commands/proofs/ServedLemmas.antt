@@ -1,4 +1,4 @@
--- Which words ask for a daemon, and what is served where they could not be read.
+-- Which words request a daemon, and what is served where they could not be read.
 use Rattle.std.proofs.Common.{◌≡◌, ◌≤◌, Bool, true, false, List, [], ◌∷◌, ℕ, sym, subst, ap, refl, arith, lit≤}
 use Rattle.std.proofs.lemmas.Bool.Decides.{nat_tests}
 use Rattle.std.specs.Prelude.{◌-◌, ◌&&◌, Option, Some, None, Result, Ok, Err, codes, drop, if◌then◌else◌, nat_le, option_map}
@@ -34,7 +34,7 @@ taken : (P : Asked → Type 0) → P (Err words.Usage) → (kinds : Kinds) (aske
 taken P usage [] asked has = has
 taken P usage (kind ∷ kinds) asked has = usage
 
--- The other tools ask for no daemon.
+-- The other tools request no daemon.
 
 listed : (filter : Result Filter WordsFault) → IsNotServed (on_ok request.List filter)
 listed (Ok filter) = tt
@@ -75,7 +75,7 @@ IsNoDaemon Atrm = Unit {0}
 IsNoDaemon Atd = ⊥
 IsNoDaemon Atday = Unit {0}
 
--- what it is asked for is not served
+-- what it is requested is not served
 pub not_served_to : (tool : Tool) (texts : List Text) → IsNoDaemon tool → IsNotServed (request_to tool texts)
 unfolding request_to
 not_served_to At texts is = taken IsNotServed tt (fault_of at_app texts) (at_asked (matches_of at_app texts)) (at_rows (matches_of at_app texts))
@@ -85,12 +85,12 @@ not_served_to Atrm texts is = taken IsNotServed tt (fault_of atrm_app texts) (at
 not_served_to Atd texts is = absurd is
 not_served_to Atday texts is = taken IsNotServed tt (fault_of atday_app texts) (atday_asked (matches_of atday_app texts)) (made _)
 
--- the words of a tool that is no daemon ask for none
+-- the words of a tool that is no daemon request none
 pub not_served : (texts : List Text) (tool : Tool) (start : ℕ) → tool_of_words texts ≡ Some (tool, start) → IsNoDaemon tool → IsNotServed (request_of texts)
 not_served texts tool start found is =
     subst (λ (of : Option (Tool × ℕ)). IsNotServed (request_by of texts)) (sym found) (not_served_to tool (drop (start - 1) texts) is)
 
--- A daemon is asked for at least one turn.
+-- A daemon is requested at least one turn.
 
 abbrev pub HasTurns : Asked → Type 0
 HasTurns (Ok (request.Submit queue mail file when)) = Unit {0}
@@ -156,7 +156,7 @@ has_turns_by (Some found) texts = has_turns_to found.0 (drop (found.1 - 1) texts
 pub has_turns : (texts : List Text) (limit interval : ℕ) (once : Bool) (turns : ℕ) → Ok (request.Daemon limit interval once turns) ≡ request_of texts → 1 ≤ turns
 has_turns texts limit interval once turns is = subst HasTurns (sym is) (has_turns_by (tool_of_words texts) texts)
 
--- where a daemon is asked for, its name is that of the tool
+-- where a daemon is requested, its name is that of the tool
 daemon_named_by : (texts : List Text) (found : Option (Tool × ℕ)) → tool_of_words texts ≡ found → (limit interval : ℕ) (once : Bool) (turns : ℕ)
     → request_by found texts ≡ Ok (request.Daemon limit interval once turns) → tool_name_of texts ≡ codes "atd"
 daemon_named_by texts None found limit interval once turns is = cc

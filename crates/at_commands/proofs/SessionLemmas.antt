@@ -8,12 +8,12 @@ use Rattle.listing_text.specs.declared.cause.Cause.{Cause}
 use Rattle.listing_text.specs.declared.cause.Cause.TheVariants.{Done, Refused, FileFault, InputFault, OutputFault, Busy, Memory}
 use Rattle.host_calls.specs.declared.store_fault.StoreFault.{StoreFault}
 use Rattle.host_calls.specs.declared.store_fault.StoreFault.TheVariants as store
-use Rattle.cause_output.specs.declared.command_error.CommandError.{CommandError}
-use Rattle.cause_output.specs.Causes.{cause_in, cause_of, error_of}
+use Rattle.tool_output.specs.declared.command_error.CommandError.{CommandError}
+use Rattle.tool_output.specs.Causes.{cause_in, cause_of, error_of}
 use Rattle.command_rules.specs.Sessions.{IsNotOpened, faults, is_damaged, lacks_memory, lists_fault, lists_lack_memory, refuses}
 use Rattle.host_calls.proofs.WorldLemmas.{goes_on_none}
 use Rattle.job_listing.specs.Scripts.{ComesOfShowing, IsOfShowing}
-use Rattle.job_removal.specs.Removing.{ComesOfRemoving, IsRemovalCause}
+use Rattle.at_commands.specs.Removal.{ComesOfRemoving, IsRemovalCause}
 use Rattle.spool_session.specs.Sessions.{ComesOfSession, HasRisenIn, IsOfSession, StaysQuiet}
 use Rattle.at_words.specs.declared.filter.Filter.{Filter}
 use Rattle.at_words.specs.declared.filter.Filter.TheVariants as filter
@@ -117,7 +117,7 @@ pub no_output_in : {T : Type 0} (result : Result T CommandError) → IfErr resul
 no_output_in (Ok value) is same = let no : Done ≡ OutputFault = same in cc
 no_output_in (Err stopped) is same = no_output_of_spool stopped is same
 
--- want of memory comes of the spool
+-- an out-of-memory error comes of the spool
 pub memory_comes : {T : Type 0} (result : Result T CommandError) → IfErr result (λ stopped. stopped ≡ error_of Memory) → IfErr result ComesOfSession
 memory_comes (Ok value) lacks = tt
 memory_comes (Err stopped) lacks = subst (λ (of : CommandError). IsOfSession of.cause) (sym lacks) tt
@@ -155,7 +155,7 @@ risen_none g old new cause no_file_fault no_busy same_session = record {
   before_lock = same_session;
 }
 
--- a refusal of the jobs that are asked for comes within the session
+-- a refusal of the jobs that are requested comes within the session
 pub jobs_come : (user : List ℕ) (removing : Bool) (table : JobTable) (numbers : List ℕ) (refusal : Refusal) →
     Some refusal ≡ jobs_check user removing table numbers → IsOfSession (Refused refusal)
 jobs_come user removing table numbers refusal is = (subst OnTable (sym is) (jobs_on user removing table numbers)).0.lock

@@ -25,18 +25,18 @@ use Rattle.spool_shows.proofs.SoundTables.{shown_tables_are_sound}
 use Rattle.host_calls.specs.declared.store_fault.StoreFault.{StoreFault}
 use Rattle.host_calls.specs.declared.store_fault.StoreFault.TheVariants.{Damaged, FileFault as Failed, Memory as NoMemory, NumbersUsedUp, QueueFull}
 use Rattle.spool_model.specs.declared.row.TheConstants.{MAX_LIVE}
-use Rattle.spool_store.specs.Submitting.{HasRoom, IsAnswerOn, IsFull, IsUsedUp, job_of_script}
+use Rattle.spool_store.specs.Submission.{HasRoom, IsAnswerOn, IsFull, IsUsedUp, job_of_script}
 use Rattle.spool_store.proofs.SubmitStored.{submission_legal}
-use Rattle.cause_output.specs.declared.caller.Caller.{Caller}
-use Rattle.cause_output.specs.declared.command_error.CommandError.{CommandError}
-use Rattle.cause_output.specs.Causes.{cause_in, cause_of, error_of}
+use Rattle.tool_output.specs.declared.caller.Caller.{Caller}
+use Rattle.tool_output.specs.declared.command_error.CommandError.{CommandError}
+use Rattle.tool_output.specs.Causes.{cause_in, cause_of, error_of}
 use Rattle.command_rules.specs.Found.{found_of}
-use Rattle.at_commands.specs.inside.Carrying.{AreWorkSteps, Finding}
+use Rattle.at_commands.specs.inside.SessionOutcome.{AreWorkSteps, Finding}
 use Rattle.spool_store.proofs.WrittenJobs.{header_of_written, job_of_written}
 use Rattle.command_rules.specs.Sessions.{IsNotOpened, IsStoreOpened, IsWorkedOn}
 use Rattle.command_rules.specs.Times.{minute_in}
 use Rattle.command_rules.specs.Verdict.{first_refusal, number_check, room_check, table_verdict}
-use Rattle.at_commands.specs.inside.Storing.{IsJobOf, Stores}
+use Rattle.at_commands.specs.inside.StoredJob.{IsJobOf, Stores}
 use Rattle.at_commands.proofs.CarryLemmas.{KeepsLists, carries_within, not_entered, not_opened, work_done, work_fails, work_lacks_memory, work_refused}
 use Rattle.at_commands.proofs.KeptLemmas.{kept_decides, kept_last}
 use Rattle.at_commands.proofs.EntryLemmas.{IsOfEntry}
@@ -121,11 +121,11 @@ module _ (tells : Bool) (caller : Caller) (queue minute : ℕ) (script : List �
 
     -- the submission failed on the way
     worked_on : (fault : StoreFault) → HasRoom kept.table →
-        (tells ≡ true → (of : JobTable) → IsCurrent kept middle.now.folder of →
+        (tells ≡ true → (of : JobTable) → IsCurrent kept middle.now.directory of →
         StoreCall {E = StoreFault} of (submission of (job_of_script queue minute script)) middle new (Err fault)) →
         tells ≡ true → IsWorkedOn (AreWorkSteps asked caller (finding opened.allow opened.deny)) table middle new
     worked_on fault room call known =
-        let current : IsCurrent kept middle.now.folder table = (opened.recovered known).current in
+        let current : IsCurrent kept middle.now.directory table = (opened.recovered known).current in
         record {
           steps = steps;
           are = are (room_accepted kept.table room);
@@ -135,7 +135,7 @@ module _ (tells : Bool) (caller : Caller) (queue minute : ℕ) (script : List �
 
     pub store_failed : (fault : StoreFault) → IsAnswerOn kept.table (Err fault) →
         (((fault ≡ QueueFull) ⊎ (fault ≡ NumbersUsedUp)) → tells ≡ true → new ≡ middle) →
-        (tells ≡ true → (of : JobTable) → IsCurrent kept middle.now.folder of →
+        (tells ≡ true → (of : JobTable) → IsCurrent kept middle.now.directory of →
         StoreCall {E = StoreFault} of (submission of (job_of_script queue minute script)) middle new (Err fault)) →
         Stores tells true asked caller finding old new (Err (error_of (cause_of fault)))
     store_failed Failed answer same call = record {
@@ -158,12 +158,12 @@ module _ (tells : Bool) (caller : Caller) (queue minute : ℕ) (script : List �
     store_failed (Damaged damage) answer same call = absurd answer
 
     pub stored : (store : Kept) (number : ℕ) → IsAnswerOn kept.table (Ok (store, number)) →
-        (tells ≡ true → (of : JobTable) → IsCurrent kept middle.now.folder of →
+        (tells ≡ true → (of : JobTable) → IsCurrent kept middle.now.directory of →
         StoreCall {E = StoreFault} of (submission of (job_of_script queue minute script)) middle new (Ok store)) →
         Stores tells true asked caller finding old new (Ok number)
     stored store number answer call = record {
       carries = work_done tells true asked caller finding keeps old middle new kept opened (room_accepted kept.table answer.0) (λ known.
-          (let current : IsCurrent kept middle.now.folder table = (opened.recovered known).current in
+          (let current : IsCurrent kept middle.now.directory table = (opened.recovered known).current in
           record {
             steps = steps;
             kept = store;

@@ -12,13 +12,13 @@ use Rattle.listing_text.specs.declared.cause.Cause.{Cause}
 use Rattle.listing_text.specs.declared.refusal.Refusal.{Refusal}
 use Rattle.spool_model.specs.JobTable.{JobTable}
 use Rattle.spool_shows.specs.Shown.{shown_by}
-use Rattle.cause_output.specs.declared.caller.Caller.{Caller}
-use Rattle.command_rules.specs.Checks.{Check, ComesUpTo, check_of, is_earlier_check, of_access, of_clock, of_date, of_directory, of_folder, of_input, of_jobs, of_length, of_lists, of_lock, of_number, of_output, of_room, of_spelling, of_steps, of_user, of_variables, of_words, of_zone}
+use Rattle.tool_output.specs.declared.caller.Caller.{Caller}
+use Rattle.command_rules.specs.Checks.{Check, ComesUpTo, check_of, is_earlier_check, of_access, of_clock, of_date, of_directory, of_spool, of_input, of_jobs, of_length, of_lists, of_lock, of_number, of_output, of_room, of_spelling, of_steps, of_user, of_variables, of_words, of_zone}
 use Rattle.command_rules.specs.Ends.{CommandEnds, KeepsOrder, Reaches}
-use Rattle.cause_output.specs.Outside.{Holding, Telling}
+use Rattle.tool_output.specs.Outside.{Holding, Telling}
 use Rattle.command_rules.specs.Found.{Asked, Finds, Found, allow_file, answers_read, deny_file, found_of}
 use Rattle.command_rules.specs.Requested.{AreAskedSteps, IsAskedLine, IsAskedText}
-use Rattle.cause_output.specs.Sinks.{IsSilent, NotesBy, SinkAt}
+use Rattle.tool_output.specs.Sinks.{IsSilent, NotesBy, SinkAt}
 use Rattle.command_rules.specs.Verdict.{verdict_of}
 use Rattle.at_commands.proofs.EndsLemmas.{IsEarly, no_true, silent_notes, silent_prints, untouched}
 
@@ -37,7 +37,7 @@ words_first of_length = refl
 words_first of_lock = refl
 words_first of_lists = refl
 words_first of_access = refl
-words_first of_folder = refl
+words_first of_spool = refl
 words_first of_room = refl
 words_first of_number = refl
 words_first of_jobs = refl
@@ -69,8 +69,8 @@ finds_unread tells (Ok (request.Make count)) zone contents found = tt
 finds_unread tells (Err fault) zone contents found = tt
 
 -- nothing is put between a moment and itself
-pub silent : (at : SinkAt) → IsSilent at at
-silent at = record { content = refl; later = omega arith }
+pub unchecked : (at : SinkAt) → IsSilent at at
+unchecked at = record { content = refl; later = omega arith }
 
 pub ends_at_words : (asked : Asked) (caller : Caller) (tells : Telling) (at : Holding) (cause : Cause) → IsEarly cause → Reaches cause of_words →
     ((found : Found) (shown : Result JobTable Damage) → KeepsOrder (verdict_of asked caller found shown) cause) →
@@ -89,10 +89,10 @@ ends_at_words asked caller tells at cause early reach order =
       up_to = up_to_words (verdict_of asked caller found shown);
       clock = λ known. sym (answers_unread asked (pos 0) at.answers);
       finds = finds_unread tells.input asked caller.zone at.contents found;
-      folder = λ known is_alone. record { allow = refl; deny = refl; table = refl };
+      directory = λ known is_alone. record { allow = refl; deny = refl; table = refl };
       apart = λ known is_alone is. refl;
       spool = λ known is_alone. untouched (AreAskedSteps asked caller found) at.spool at.spool cause of_words early reach refl refl;
-      prints = λ known is_alone tells_output. silent_prints cause (IsAskedText asked caller found shown) at.output at.output early (silent at.output);
+      prints = λ known is_alone tells_output. silent_prints cause (IsAskedText asked caller found shown) at.output at.output early (unchecked at.output);
       listed = λ known is_alone is same. absurd (subst (λ (of : Cause). IsEarly of) same early);
-      notes = λ tells_errors. silent_notes cause (IsAskedLine asked caller found shown) at.errors at.errors early (silent at.errors);
+      notes = λ tells_errors. silent_notes cause (IsAskedLine asked caller found shown) at.errors at.errors early (unchecked at.errors);
     }

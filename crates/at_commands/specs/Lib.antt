@@ -1,4 +1,5 @@
 pub mod Outside
+pub mod Removal
 pub mod Served
 pub mod Tools
 pub mod inside

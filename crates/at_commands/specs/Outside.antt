@@ -1,11 +1,11 @@
 -- What a command leaves of all that it is handed (own).
 use Rattle.std.specs.Prelude.{◌≡◌, ◌≢◌, ℕ, true, false, List, Err}
 use Rattle.at_words.specs.declared.fault.WordsFault.{WordsFault}
-use Rattle.cause_output.specs.declared.caller.Caller.{Caller}
+use Rattle.tool_output.specs.declared.caller.Caller.{Caller}
 use Rattle.command_rules.specs.Ends.{CommandEnds, FailsToPrint, StopsBeforeLock}
-use Rattle.cause_output.specs.Outside.{HasRisen, OutsideAt, Telling, telling}
+use Rattle.tool_output.specs.Outside.{HasRisen, OutsideAt, Telling, telling}
 use Rattle.command_rules.specs.Found.{Asked, is_submission}
-use Rattle.cause_output.specs.Sinks.{SinkAt}
+use Rattle.tool_output.specs.Sinks.{SinkAt}
 use Rattle.host_calls.specs.Inputs.{AreReadAtMostOnce}
 use Rattle.host_calls.specs.Session.{IsLeft}
 use Rattle.host_calls.specs.World.{TimePasses}
@@ -18,9 +18,9 @@ use Rattle.at_commands.specs.Served.{ServesAnew, WhereServed}
 abbrev pub HasRisenAsked : Asked → OutsideAt → OutsideAt → Cause → Type 0
 HasRisenAsked asked old new cause = HasRisen (FailsToPrint asked old.out new.out old.err new.err) old new cause
 
--- How a command ends that asks for no daemon: it starts no child and hands nothing over; its verdict and order, what each
+-- How a command ends that requests no daemon: it starts no child and starts nothing; its verdict and order, what each
 -- crash on the way and each image of the end show, and what is printed and said. No load is read, and it does not end while
--- jobs still run. Words that ask for nothing leave the session alone, and so does all else that stops before the lock.
+-- jobs still run. Words that request nothing leave the session alone, and so does all else that stops before the lock.
 pub record EndsUnserved (Notes : Cause → (List ℕ → Type 0) → SinkAt → SinkAt → Type 0) (asked : Asked) (caller : Caller)
     (old new : OutsideAt) (cause : Cause) : Type 0 where
   pub left : IsLeft old.session new.session
@@ -31,17 +31,18 @@ pub record EndsUnserved (Notes : Cause → (List ℕ → Type 0) → SinkAt → 
   pub unasked : (fault : WordsFault) → asked ≡ Err fault → new.session ≡ old.session
   pub before_lock : StopsBeforeLock cause → new.session ≡ old.session
 
--- what serving is told of: it is handed no inputs
+-- what serving is known of: it is handed no inputs
 abbrev pub telling_served : Telling → Telling
 telling_served tells = telling tells.files tells.alone tells.clock false tells.output tells.errors
 
--- where a daemon is asked for, one without kids serves: its turns, what is printed and said of them, and its cause
+-- where a daemon is requested, one without children serves: its turns, what is printed and said of them, and its
+-- cause
 abbrev pub ServesAsked : Asked → OutsideAt → OutsideAt → Cause → Type 0
 ServesAsked asked old new cause = WhereServed asked (λ limit interval once turns.
     ServesAnew (telling_served old.tells) limit interval once turns (served_at old) (served_at new) old.holds.output new.holds.output
     old.holds.errors new.holds.errors cause)
 
--- What the readings, the inputs and the sinks were made as stays, and so does what the inputs hold. No input is asked for but
+-- What the readings, the inputs and the sinks were made as stays, and so does what the inputs hold. No input is requested but
 -- by a submission, which reads once at most.
 pub record StaysMade (asked : Asked) (old new : OutsideAt) : Type 0 where
   pub readers : new.readers.made_as ≡ old.readers.made_as

@@ -2,14 +2,14 @@
 use Rattle.std.specs.Prelude.{ℕ, Bool, Ok, Err}
 use Rattle.at_words.specs.declared.tool_request.ToolRequest.TheVariants as request
 use Rattle.command_rules.specs.Found.{Asked}
-use Rattle.cause_output.specs.Sinks.{SinkAt}
+use Rattle.tool_output.specs.Sinks.{SinkAt}
 use Rattle.daemon_turn.specs.Daemons.{DaemonState, new_daemon}
 use Rattle.listing_text.specs.declared.cause.Cause.{Cause}
 use Rattle.serving.specs.Serves.{ServeState}
-use Rattle.cause_output.specs.Outside.{Telling}
+use Rattle.tool_output.specs.Outside.{Telling}
 use Rattle.serving.specs.Serving.{Serving}
 
--- no daemon is asked for
+-- no daemon is requested
 abbrev pub IsNotServed : Asked → Type 0
 IsNotServed (Ok (request.Submit queue mail file when)) = Unit {0}
 IsNotServed (Ok (request.List filter)) = Unit {0}
@@ -19,8 +19,8 @@ IsNotServed (Ok (request.Daemon limit interval once turns)) = ⊥
 IsNotServed (Ok (request.Make count)) = Unit {0}
 IsNotServed (Err fault) = Unit {0}
 
--- where a daemon is asked for, this is so of its limit, its interval, whether it is served only until no kid is left, and
--- the number of its turns
+-- where a daemon is requested, this is so of its limit, its interval, whether it is served only until no child is left,
+-- and the number of its turns
 abbrev pub WhereServed : Asked → (ℕ → ℕ → Bool → ℕ → Type 0) → Type 0
 WhereServed (Ok (request.Submit queue mail file when)) IsSo = Unit {0}
 WhereServed (Ok (request.List filter)) IsSo = Unit {0}
@@ -30,7 +30,7 @@ WhereServed (Ok (request.Daemon limit interval once turns)) IsSo = IsSo limit in
 WhereServed (Ok (request.Make count)) IsSo = Unit {0}
 WhereServed (Err fault) IsSo = Unit {0}
 
--- A daemon without kids served, and is gone. What it was served with is given by what the daemon keeps.
+-- A daemon without children served, and is gone. What it was served with is given by what the daemon keeps.
 pub record ServesAnew (tells : Telling) (limit interval : ℕ) (once : Bool) (turns : ℕ) (old new : DaemonState → ServeState)
     (out_old out_new err_old err_new : SinkAt) (cause : Cause) : Type 0 where
   pub daemon : DaemonState

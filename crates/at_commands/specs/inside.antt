@@ -1,6 +1,6 @@
-pub mod Answering
-pub mod Carrying
-pub mod Saying
+pub mod AcceptedLine
+pub mod RequestOutcome
 pub mod Session
+pub mod SessionOutcome
 pub mod Sessions
-pub mod Storing
+pub mod StoredJob

@@ -1,6 +1,6 @@
 //! The cause of an end.
 ghost use Rattle.std.specs.Prelude.{◌≡◌};
-ghost use Rattle.cause_output.specs.Causes.{cause_in};
+ghost use Rattle.tool_output.specs.Causes.{cause_in};
 
 use command_rules::CommandError;
 use listing_text::Cause;

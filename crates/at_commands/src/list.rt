@@ -8,17 +8,16 @@ ghost use Rattle.host_calls.specs.World.{TimePasses};
 ghost use Rattle.listing_text.specs.declared.cause.Cause.TheVariants as cause;
 ghost use Rattle.listing_text.specs.Listing.{IsListing};
 ghost use Rattle.spool_model.specs.Users.{IsUserName};
-ghost use Rattle.cause_output.specs.Causes.{error_of};
+ghost use Rattle.tool_output.specs.Causes.{error_of};
 ghost use Rattle.command_rules.specs.Requested.{passes_of};
-ghost use Rattle.cause_output.specs.Sinks.{sink_at};
+ghost use Rattle.tool_output.specs.Sinks.{sink_at};
 ghost use Rattle.command_rules.specs.Verdict.{filter_check};
-ghost use Rattle.at_commands.specs.inside.Answering.{EndsPrinting};
+ghost use Rattle.at_commands.specs.inside.RequestOutcome.{EndsPrinting};
 ghost use Rattle.spool_session.specs.Sessions.{ComesOfSession, HasRisenIn, StaysQuiet};
 ghost use Rattle.at_commands.specs.inside.Session.{IsNoOutput};
 ghost use Rattle.at_commands.specs.inside.Sessions.{ListsFor};
 
 use at_words::Filter;
-use cause_output::put_whole;
 use civil_minute::{Zone, is_unreadable};
 use command_rules::{Caller, CommandError};
 use host_calls::{Bytes, Host, Sink};
@@ -28,6 +27,7 @@ use spool_model::UserName;
 use spool_session::{in_command_session, open_store, refusal_of_jobs};
 use spool_store::Store;
 use std::alloc::Global;
+use tool_output::put_whole;
 
 // Lists the jobs that the filter lets pass.
 pub(crate) fn list_jobs<H: Host, O: Sink>(
@@ -130,7 +130,7 @@ fn listing_text_of(
     Ok(job_listing_text(alloc, store, user, which, zone)?)
 }
 
-// The first refusal of the jobs that are asked for by their numbers.
+// The first refusal of the jobs that are requested by their numbers.
 fn refusal_of_filter(store: &Store, user: &UserName, which: &Filter) -> Option<Refusal>
     ensures { result ≡ filter_check user.now store.now.table which.now }
 {

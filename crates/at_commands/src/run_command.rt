@@ -1,15 +1,15 @@
-//! The command: what its words ask for, done.
+//! The command: what its words request, done.
 ghost use Rattle.std.specs.Prelude.{◌≡◌, ◌<◌, ◌≤◌, Ok, map, string_bytes, false};
 ghost use Rattle.at_words.specs.Queues.{HasQueueLetter};
 ghost use Rattle.at_words.specs.Requests.{request_of};
 ghost use Rattle.host_calls.specs.Session.{IsOutside};
 ghost use Rattle.listing_text.specs.Cause.{status_of};
-ghost use Rattle.cause_output.specs.Sinks.{NotesBy, SaysBy, sink_at};
+ghost use Rattle.tool_output.specs.Sinks.{NotesBy, SaysBy, sink_at};
 ghost use Rattle.daemon_turn.specs.Daemons.{new_daemon};
 ghost use Rattle.serving.specs.Outside.{EndsOutside, HasRisenServing, StaysMadeServing, serving_outside};
 ghost use Rattle.serving.specs.Serves.{serve_at};
 ghost use Rattle.at_commands.specs.Outside.{EndsUnserved, HasRisenAsked, ServesAsked, StaysMade};
-ghost use Rattle.cause_output.specs.Outside.{outside_at, telling};
+ghost use Rattle.tool_output.specs.Outside.{outside_at, telling};
 ghost use Rattle.at_commands.specs.Served.{IsNotServed, ServesAnew};
 ghost use Rattle.at_commands.specs.Tools.{name_of_command, name_or_at, tool_name_of};
 
@@ -18,15 +18,15 @@ use crate::remove::remove;
 use crate::show::show;
 use crate::submit::submit_job;
 use at_words::{Tool, ToolRequest, request_by, tool_of};
-use cause_output::say_cause;
 use command_rules::{Caller, cause_of_words};
 use daemon_turn::Daemon;
 use host_calls::{Host, Inputs, Readings, Sink};
 use listing_text::{Cause, Refusal, Status};
 use serving::serve;
 use std::alloc::Global;
+use tool_output::say_cause;
 
-/// Does what the words of the tools ask for. A day is not made here: what words of `atday` ask for is refused.
+/// Does what the words of the tools request. A day is not made here: what words of `atday` request is refused.
 pub fn command<H: Host, R: Readings, I: Inputs, O: Sink, E: Sink>(
     alloc: Global,
     words: &[String],
@@ -89,7 +89,7 @@ pub fn command<H: Host, R: Readings, I: Inputs, O: Sink, E: Sink>(
     }
 }
 
-// Serves with a daemon without kids.
+// Serves with a daemon without children.
 fn serve_anew<H: Host, R: Readings, O: Sink, E: Sink>(
     alloc: Global,
     limit: u32,
@@ -121,7 +121,7 @@ fn serve_anew<H: Host, R: Readings, O: Sink, E: Sink>(
     serve(alloc, &mut daemon, turns, once, host, readings, out, err)
 }
 
-// Does what is asked for, and says the line of its cause.
+// Does what is requested, and says the line of its cause.
 fn run_request<H: Host, R: Readings, I: Inputs, O: Sink, E: Sink>(
     alloc: Global,
     asked: ToolRequest,
@@ -152,7 +152,7 @@ fn run_request<H: Host, R: Readings, I: Inputs, O: Sink, E: Sink>(
     Status::of(say_cause(alloc, tool, cause, err))
 }
 
-// Does what is asked for. The line of the cause is still to be said.
+// Does what is requested. The line of the cause is still to be said.
 fn dispatch<H: Host, R: Readings, I: Inputs, O: Sink, E: Sink>(
     alloc: Global,
     asked: ToolRequest,

@@ -1,11 +1,11 @@
 //! What a command says to its caller.
-ghost use Rattle.clock_range.specs.ClockRange.{IsClockMinute};
+ghost use Rattle.host_calls.specs.ClockRange.{IsClockMinute};
 ghost use Rattle.std.specs.Prelude.{◌≡◌, IsTrue};
 ghost use Rattle.civil_minute.specs.Zone.{IsReadable};
 ghost use Rattle.host_calls.specs.Causes.{HasCause};
 ghost use Rattle.command_rules.specs.Requested.{IsAcceptedLine};
-ghost use Rattle.cause_output.specs.Sinks.{sink_at};
-ghost use Rattle.at_commands.specs.inside.Saying.{SaysAccepted};
+ghost use Rattle.tool_output.specs.Sinks.{sink_at};
+ghost use Rattle.at_commands.specs.inside.AcceptedLine.{SaysAccepted};
 
 use civil_minute::{Zone, civil_of};
 use host_calls::{Sink, SinkFault};

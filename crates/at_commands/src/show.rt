@@ -6,9 +6,9 @@ ghost use Rattle.host_calls.specs.Session.{CallsInside, IsInside, IsOutside};
 ghost use Rattle.host_calls.specs.World.{TimePasses};
 ghost use Rattle.spool_session.specs.Sessions.{ComesOfSession, HasRisenIn, StaysQuiet};
 ghost use Rattle.listing_text.specs.declared.cause.Cause.TheVariants as cause;
-ghost use Rattle.cause_output.specs.Causes.{error_of};
-ghost use Rattle.cause_output.specs.Sinks.{sink_at};
-ghost use Rattle.at_commands.specs.inside.Answering.{EndsPrinting};
+ghost use Rattle.tool_output.specs.Causes.{error_of};
+ghost use Rattle.tool_output.specs.Sinks.{sink_at};
+ghost use Rattle.at_commands.specs.inside.RequestOutcome.{EndsPrinting};
 ghost use Rattle.at_commands.specs.inside.Sessions.{ShowsFor};
 
 use crate::cause::cause_of_command;

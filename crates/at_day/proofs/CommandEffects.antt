@@ -4,8 +4,8 @@ use Rattle.std.specs.Prelude.{Some, Ok, Err}
 use Rattle.at_words.specs.declared.tool_request.ToolRequest.TheVariants as request
 use Rattle.at_words.specs.Requests.{request_of}
 use Rattle.civil_minute.specs.declared.zone.Zone.{Zone}
-use Rattle.cause_output.specs.declared.caller.Caller.{Caller}
-use Rattle.command_rules.specs.Checks.{Check, is_earlier_check, of_words, of_user, of_directory, of_variables, of_clock, of_zone, of_spelling, of_date, of_input, of_length, of_lock, of_lists, of_access, of_folder, of_room, of_number, of_jobs, of_steps, of_output}
+use Rattle.tool_output.specs.declared.caller.Caller.{Caller}
+use Rattle.command_rules.specs.Checks.{Check, is_earlier_check, of_words, of_user, of_directory, of_variables, of_clock, of_zone, of_spelling, of_date, of_input, of_length, of_lock, of_lists, of_access, of_spool, of_room, of_number, of_jobs, of_steps, of_output}
 use Rattle.command_rules.specs.Ends.{Reaches}
 use Rattle.command_rules.specs.Found.{Asked, Finds, Found, is_submission}
 use Rattle.command_rules.specs.Requested.{AreAskedSteps, OrNone, forget_steps, removes, steps_asked}
@@ -24,7 +24,7 @@ use Rattle.spool_model.specs.JobTable.{JobTable}
 use Rattle.spool_model.specs.Lists.{surplus}
 use Rattle.spool_model.specs.Steps.{FollowDraws, after_steps}
 use Rattle.at_day.specs.EventOutcomes.{AreCommandSteps, AreCommandStepsBy}
-use Rattle.at_day.specs.Giving.{HasReadClock}
+use Rattle.at_day.specs.GivenCommand.{HasReadClock}
 
 -- each Accept among the steps of a request stands after its Draw
 
@@ -52,7 +52,7 @@ follow_are asked caller found table steps are = subst (FollowDraws false) (sym a
 follow_none : (steps : List Step) → steps ≡ [] → FollowDraws false steps
 follow_none steps none = subst (FollowDraws false) (sym none) tt
 
--- what comes after the check of the folder has passed those before the lock
+-- what comes after the check of the directory has passed those before the lock
 
 pub record IsLate (reached : Check) : Type 0 where
   pub clock : is_earlier_check of_variables reached ≡ true
@@ -62,7 +62,7 @@ pub record IsLate (reached : Check) : Type 0 where
 no_bool : true ≡ false → ⊥
 no_bool is = cc
 
-late_after : (reached : Check) → is_earlier_check reached of_folder ≡ false → IsLate reached
+late_after : (reached : Check) → is_earlier_check reached of_spool ≡ false → IsLate reached
 late_after of_words is = absurd (no_bool is)
 late_after of_user is = absurd (no_bool is)
 late_after of_directory is = absurd (no_bool is)
@@ -76,7 +76,7 @@ late_after of_length is = absurd (no_bool is)
 late_after of_lock is = absurd (no_bool is)
 late_after of_lists is = absurd (no_bool is)
 late_after of_access is = absurd (no_bool is)
-late_after of_folder is = record { clock = refl; zone = refl; input = refl }
+late_after of_spool is = record { clock = refl; zone = refl; input = refl }
 late_after of_room is = record { clock = refl; zone = refl; input = refl }
 late_after of_number is = record { clock = refl; zone = refl; input = refl }
 late_after of_jobs is = record { clock = refl; zone = refl; input = refl }
@@ -109,9 +109,9 @@ EffectsBy acknowledged words caller input now old new =
 module _ (words : List (List ℕ)) (caller : Caller) (input : List ℕ) (now : ℤ) (old new : World) (found : Found) (reached : Check)
     (finds : Finds true (request_of words) caller.zone (given_contents input (Some input)) reached found)
     (clock : HasReadClock (request_of words) reached → found.now ≡ now)
-    (apart : is_earlier_check reached of_folder ≡ true → new ≡ old) where
+    (apart : is_earlier_check reached of_spool ≡ true → new ≡ old) where
   -- the steps are those of the command at its second with its input
-  strict : (table : JobTable) (steps : List Step) → is_earlier_check reached of_folder ≡ false →
+  strict : (table : JobTable) (steps : List Step) → is_earlier_check reached of_spool ≡ false →
       AreAskedSteps (request_of words) caller found table steps → AreCommandSteps words caller input now table steps
   strict table steps is are =
       let late : IsLate reached = late_after reached is in
@@ -125,7 +125,7 @@ module _ (words : List (List ℕ)) (caller : Caller) (input : List ℕ) (now : �
   unbegun_effect : (acknowledged : Bool) → acknowledged ≡ false → new ≡ old → EffectsBy acknowledged words caller input now old new
   unbegun_effect acknowledged is same = (Untouched, is, unbegun_same old new same)
 
-  begun_effect : (table : JobTable) (steps : List Step) → is_earlier_check reached of_folder ≡ false →
+  begun_effect : (table : JobTable) (steps : List Step) → is_earlier_check reached of_spool ≡ false →
       OrNone (AreAskedSteps (request_of words) caller found) table steps → IsBegun table steps old new →
       EffectsBy false words caller input now old new
   begun_effect table steps is (inl are) begun =
@@ -133,7 +133,7 @@ module _ (words : List (List ℕ)) (caller : Caller) (input : List ℕ) (now : �
   begun_effect table steps is (inr none) begun = (Partial table steps, (refl, inr none), (follow_none steps none, begun))
 
   attempt_effect : Attempts (OrNone (AreAskedSteps (request_of words) caller found)) old new → EffectsBy false words caller input now old new
-  attempt_effect attempts = elim (either (is_earlier_check reached of_folder)) [
+  attempt_effect attempts = elim (either (is_earlier_check reached of_spool)) [
     | inl early ↦ unbegun_effect false refl (apart early)
     | inr is ↦ elim attempts [
       | inl unbegun ↦ (Untouched, refl, unbegun)
@@ -145,7 +145,7 @@ module _ (words : List (List ℕ)) (caller : Caller) (input : List ℕ) (now : �
       SpoolEnds (AreAskedSteps (request_of words) caller found) old new cause →
       EffectsBy (is_done_cause cause) words caller input now old new
   effect_by Done reaches no_fault ends =
-      let is : is_earlier_check reached of_folder ≡ false = ap (λ (check : Check). is_earlier_check check of_folder) reaches in
+      let is : is_earlier_check reached of_spool ≡ false = ap (λ (check : Check). is_earlier_check check of_spool) reaches in
       (Whole ends.0 ends.1, strict ends.0 ends.1 is ends.2, (follow_are (request_of words) caller found ends.0 ends.1 ends.2, ends.3))
   effect_by OutputFault reaches no_fault ends = absurd (no_fault refl)
   effect_by FileFault reaches no_fault ends = attempt_effect ends

@@ -22,7 +22,7 @@ use Rattle.spool_store.specs.Listed.{ListsDecided, ListsLive}
 use Rattle.spool_store.specs.Rows.{decided_entry, row_entry}
 use Rattle.spool_store.proofs.CountLemmas.{decided_listed, rows_listed}
 use Rattle.spool_store.proofs.Edits.{test_from}
-use Rattle.at_day.specs.Counting.{done_so, is_done_so}
+use Rattle.at_day.specs.JobCounts.{done_so, is_done_so}
 
 -- as many pass on either side of a map where each passes on both
 count_from : {X Y : Type 0} (p : X → Bool) (q : Y → Bool) (f : Y → X) (ys : List Y) (from : ℕ) →
@@ -91,7 +91,7 @@ listed_few make (first ∷ later) last rises each =
     let low : 1 ≤ (make first).0 = here.0 in
     omega arith
 
--- a table has no more rows, and no more decided numbers, than were drawn
+-- a table has no more rows, and no more finished numbers, than were drawn
 drawn_at : (table : JobTable) → IsSound table → (number : ℕ) (entry : JobEntry) → entry_at table number ≡ Some entry →
     (1 ≤ number) × (number ≤ table.last)
 drawn_at table sound number entry is =

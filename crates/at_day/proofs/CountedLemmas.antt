@@ -1,8 +1,8 @@
--- A session in which the folder is recovered and counted.
+-- A session in which the directory is recovered and counted.
 use Rattle.std.proofs.Common.{◌≡◌, ◌≤◌, ℕ, List, sym, ap, subst, ◌∙◌, inl, inr, arith}
 use Rattle.std.specs.Prelude.{Result, Ok, Err, count_by}
 use Rattle.command_rules.proofs.SpoolLemmas.{unbegun_same}
-use Rattle.host_session.proofs.SessionLemmas.{counts_on}
+use Rattle.host_calls.proofs.SessionLemmas.{counts_on}
 use Rattle.host_calls.specs.Causes.{Rose}
 use Rattle.host_calls.specs.Session.{IsLeft, KeepsCounts, Session, StaysInside}
 use Rattle.host_calls.specs.World.{World}
@@ -16,11 +16,11 @@ use Rattle.spool_model.specs.declared.row.Row.{Row}
 use Rattle.spool_model.specs.JobTable.{JobTable}
 use Rattle.spool_model.specs.Lists.{live_rows}
 use Rattle.spool_store.specs.Listed.{ListsDecided, ListsLive}
-use Rattle.spool_store.specs.Recovering.{IsRecovered}
+use Rattle.spool_store.specs.Recovery.{IsRecovered}
 use Rattle.host_calls.specs.declared.store_fault.StoreFault.{StoreFault}
 use Rattle.host_calls.specs.declared.store_fault.StoreFault.TheVariants as fault
 use Rattle.at_day.specs.declared.counts.Counts.{Counts}
-use Rattle.at_day.specs.Counting.{CountsBy, IsTableCounted, done_so, is_running_row, is_waiting_row, was_finished, was_interrupted, was_not_started, was_removed}
+use Rattle.at_day.specs.JobCounts.{CountsBy, IsTableCounted, done_so, is_running_row, is_waiting_row, was_finished, was_interrupted, was_not_started, was_removed}
 use Rattle.at_day.proofs.CountLemmas.{done_counted, live_is}
 
 -- a count that rose on the way has risen in all
@@ -60,7 +60,7 @@ unfolding without_scripts
 last_is table kept is = ap (λ (of : JobTable). of.last) is
 
 -- a recovery, and the counts of what it kept
-pub counted : (old new : Session) (before after : World) (kept : Kept) → IsRecovered before.now.folder after.now.folder kept →
+pub counted : (old new : Session) (before after : World) (kept : Kept) → IsRecovered before.now.directory after.now.directory kept →
     (rows : List Row) → ListsLive kept.table rows → (decided : List Decided) → ListsDecided kept.table decided →
     (counts : Counts) → counts.last ≡ kept.table.last → counts.pending ≡ count_by is_waiting_row rows → counts.running ≡ count_by is_running_row rows →
     counts.removed ≡ count_by (λ one. was_removed one.fate) decided →

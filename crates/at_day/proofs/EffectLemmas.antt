@@ -1,20 +1,20 @@
 -- What an event does to the spool, as a move of its steps.
 use Rattle.std.proofs.Common.{◌≡◌, ◌++◌, [], ◌∷◌, ℕ, ℤ, Bool, false, List, sym, ap, subst, refl, inl, inr}
-use Rattle.host_session.specs.declared.turn_end.TurnEnd.{TurnEnd}
-use Rattle.host_session.specs.declared.turn_end.TurnEnd.TheVariants.{Done, Busy, FileFault, Damaged, Memory}
+use Rattle.host_calls.specs.declared.turn_end.TurnEnd.{TurnEnd}
+use Rattle.host_calls.specs.declared.turn_end.TurnEnd.TheVariants.{Done, Busy, FileFault, Damaged, Memory}
 use Rattle.spool_model.specs.declared.turn_step.TurnStep.{TurnStep}
 use Rattle.spool_model.specs.declared.turn_step.TurnStep.TheVariants.{HandedOver, Ended, Interrupted, Forgotten}
-use Rattle.daemon_turn.specs.Leaving.{DaemonAt, IsTurnStopped, TurnLeaves}
-use Rattle.daemon_turn.specs.Starting.{Turn as TurnOf, turn_of}
+use Rattle.daemon_turn.specs.TurnOutcome.{DaemonAt, IsTurnStopped, TurnLeaves}
+use Rattle.daemon_turn.specs.StartOrder.{Turn as TurnOf, turn_of}
 use Rattle.spool_model.specs.StepsOf.{steps_of_turn}
-use Rattle.day_events.specs.declared.event.Event.{Event}
-use Rattle.day_events.specs.declared.event.Event.TheVariants.{Command, Turn, Reboot}
-use Rattle.day_events.specs.declared.report.EventReport.{EventReport}
-use Rattle.day_events.specs.declared.report.EventReport.TheVariants as known
+use Rattle.at_day.specs.declared.event.Event.{Event}
+use Rattle.at_day.specs.declared.event.Event.TheVariants.{Command, Turn, Reboot}
+use Rattle.at_day.specs.declared.events_report.EventReport.{EventReport}
+use Rattle.at_day.specs.declared.events_report.EventReport.TheVariants as known
 use Rattle.headline.specs.Effects.{ComesUpWith, TakesEffect, IsEffectOf, Effect, Untouched, Partial, Whole, Crashed}
-use Rattle.host_calls.specs.Folder.{Files, IsImage}
+use Rattle.host_calls.specs.Directory.{Files, IsImage}
 use Rattle.host_calls.specs.World.{Moment, World, reading}
-use Rattle.cause_output.specs.declared.caller.Caller.{Caller}
+use Rattle.tool_output.specs.declared.caller.Caller.{Caller}
 use Rattle.step_runs.specs.Made.{flags_of}
 use Rattle.listing_text.specs.Cause.{is_done_cause}
 use Rattle.listing_text.specs.declared.status.Status.{Status}
@@ -22,8 +22,8 @@ use Rattle.memory_host.specs.declared.memory_host.MemoryHost.{MemoryHost}
 use Rattle.memory_host.specs.Host.{after_reboot, memory_world}
 use Rattle.spool_model.specs.Steps.{FollowDraws}
 use Rattle.at_day.specs.EventOutcomes.{AreStepsOfTurn, IsEventEffect, is_done_turn}
-use Rattle.at_day.specs.Giving.{IsGiven}
-use Rattle.at_day.specs.Happening.{Happens, full_turn}
+use Rattle.at_day.specs.GivenCommand.{IsGiven}
+use Rattle.at_day.specs.EventEffects.{Happens, full_turn}
 use Rattle.at_day.specs.Machines.{Machine, daemon_at, spool_of}
 use Rattle.at_day.proofs.CommandEffects.{EffectsBy, effect_by}
 
@@ -73,8 +73,8 @@ turn_effect turn steps old new Memory (inl idle) = (Untouched, refl, idle.unbegu
 turn_effect turn steps old new Memory (inr stopped) = stopped_effect turn steps old new stopped
 
 -- a machine that is up again has the image that the crash left
-comes_up : (pick : ℕ) (old new : World) → new ≡ after_reboot pick old → IsImage old.now.folder (reading new) →
-    ((image : Files) → IsImage new.now.folder image → image ≡ reading new) → ComesUpWith (reading new) old new
+comes_up : (pick : ℕ) (old new : World) → new ≡ after_reboot pick old → IsImage old.now.directory (reading new) →
+    ((image : Files) → IsImage new.now.directory image → image ≡ reading new) → ComesUpWith (reading new) old new
 comes_up pick old new is was only =
     let handed : new.now.handed ≡ old.now.handed = ap (λ (world : World). world.now.handed) is in
     let before : new.before ≡ old.now ∷ old.before = ap (λ (world : World). world.before) is in
@@ -85,7 +85,7 @@ comes_up pick old new is was only =
       leaves = record {
         more = new.now ∷ [];
         run = ap (λ (moments : List Moment). new.now ∷ moments) before;
-        each = ((λ image image_is. (subst (IsImage old.now.folder) (sym (only image image_is)) was, handed)), tt);
+        each = ((λ image image_is. (subst (IsImage old.now.directory) (sym (only image image_is)) was, handed)), tt);
       };
     }
 

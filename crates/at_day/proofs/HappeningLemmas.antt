@@ -2,14 +2,14 @@
 use Rattle.std.proofs.Common.{◌≡◌, ℕ, ℤ, List, refl, inl, inr, subst}
 use Rattle.std.specs.Prelude.{Result, Ok, Err, OnErr}
 use Rattle.std.specs.declared.alloc.AllocError.{AllocError}
-use Rattle.cause_output.specs.declared.caller.Caller.{Caller}
+use Rattle.tool_output.specs.declared.caller.Caller.{Caller}
 use Rattle.daemon_turn.specs.Daemons.{DaemonState}
-use Rattle.day_events.specs.declared.event.Event.TheVariants.{Command}
-use Rattle.day_events.specs.declared.report.EventReport.{EventReport}
-use Rattle.day_events.specs.declared.report.EventReport.TheVariants as known
+use Rattle.at_day.specs.declared.event.Event.TheVariants.{Command}
+use Rattle.at_day.specs.declared.events_report.EventReport.{EventReport}
+use Rattle.at_day.specs.declared.events_report.EventReport.TheVariants as known
 use Rattle.memory_host.specs.declared.memory_host.MemoryHost.{MemoryHost}
-use Rattle.at_day.specs.Giving.{IsGivenUnreported}
-use Rattle.at_day.specs.Happening.{IsUnreported}
+use Rattle.at_day.specs.GivenCommand.{IsGivenUnreported}
+use Rattle.at_day.specs.EventEffects.{IsUnreported}
 use Rattle.at_day.specs.Machines.{machine}
 
 unreported_as : (words : List (List ℕ)) (caller : Caller) (input : List ℕ) (now : ℤ) (old new : MemoryHost) (daemon : DaemonState) →

@@ -1,11 +1,12 @@
 pub mod CommandEffects
 pub mod CountLemmas
 pub mod CountedLemmas
-pub mod OutcomeLemmas
+pub mod EffectLemmas
+pub mod EventsMadeLemmas
 pub mod HappeningLemmas
 pub mod LineLemmas
 pub mod MadeLemmas
-pub mod EffectLemmas
+pub mod OutcomeLemmas
 pub mod ProgramLemmas
 pub mod RequestLemmas
 pub mod SoundLemmas

@@ -1,7 +1,7 @@
 -- Lines pushed one after another.
 use Rattle.std.proofs.Common.{◌≡◌, ◌++◌, [], ◌∷◌, ℕ, List, refl, ap, ◌∙◌}
 use Rattle.std.specs.List.{concat}
-use Rattle.cause_output.specs.Putting.{joined_lines}
+use Rattle.tool_output.specs.PutLines.{joined_lines}
 
 -- one line pushed after others
 pub pushed : (before after lines : List (List ℕ)) (line wanted : List ℕ) → before ≡ lines → after ≡ before ++ line ∷ [] →

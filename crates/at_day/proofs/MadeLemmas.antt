@@ -1,14 +1,14 @@
--- The events of a made day: a day can have each of them, and no reboot lights a fuse.
+-- The events of a simulated run: a day can have each of them, and no reboot lights a fuse.
 use Rattle.std.proofs.Common.{◌≡◌, ◌+◌, ◌*◌, ◌%◌, ◌==◌, ◌<◌, ◌≤◌, ◌++◌, [], ◌∷◌, ℕ, Bool, true, false, zero, suc, List, ◌∙◌, refl, arith, codes, if◌then◌else◌}
 use Rattle.std.specs.Prelude.{Option, Some, None}
 use Rattle.std.specs.List.{list_all}
 use Rattle.std.proofs.lemmas.Bool.Decides.{nat_tests}
 use Rattle.std.proofs.lemmas.List.Folds.{list_all-append}
 use Rattle.at_words.specs.Tools.{tool_of_name}
-use Rattle.day_events.specs.Days.{is_day_event}
-use Rattle.day_events.specs.declared.event.Event.{Event}
-use Rattle.day_events.specs.declared.event.Event.TheVariants.{Command, Turn, Reboot}
-use Rattle.day_events.specs.Made.{echo_of, made_command, made_event, made_events, removal_words, second_of}
+use Rattle.at_day.specs.EventsDays.{is_day_event}
+use Rattle.at_day.specs.declared.event.Event.{Event}
+use Rattle.at_day.specs.declared.event.Event.TheVariants.{Command, Turn, Reboot}
+use Rattle.at_day.specs.Made.{echo_of, made_command, made_event, made_events, removal_words, second_of}
 use Rattle.at_words.specs.declared.atday.TheConstants.{MAX_EVENTS}
 
 either : (P : Event → Type 0) (which : Bool) (one other : Event) → P one → P other → P (if which then one else other)

@@ -7,11 +7,11 @@ use Rattle.std.proofs.lemmas.List.{map_push, take-append-drop, take_more}
 use Rattle.daemon_turn.specs.declared.kid.Kid.{Kid}
 use Rattle.daemon_turn.specs.Daemons.{DaemonState, new_daemon}
 use Rattle.daemon_turn.specs.Kids.{AreChildren}
-use Rattle.day_events.specs.Days.{is_day_event}
-use Rattle.day_events.specs.declared.event.Event.{Event}
-use Rattle.day_events.specs.declared.event.Event.TheVariants.{Command, Turn, Reboot}
-use Rattle.day_events.specs.declared.report.EventReport.{EventReport}
-use Rattle.day_events.specs.declared.report.EventReport.TheVariants as known
+use Rattle.at_day.specs.EventsDays.{is_day_event}
+use Rattle.at_day.specs.declared.event.Event.{Event}
+use Rattle.at_day.specs.declared.event.Event.TheVariants.{Command, Turn, Reboot}
+use Rattle.at_day.specs.declared.events_report.EventReport.{EventReport}
+use Rattle.at_day.specs.declared.events_report.EventReport.TheVariants as known
 use Rattle.headline.specs.Laws.{EventsHandOnce}
 use Rattle.headline.specs.Effects.{PassFrom}
 use Rattle.host_calls.specs.declared.child.Child.{Child}
@@ -21,7 +21,7 @@ use Rattle.memory_host.specs.declared.memory_host.MemoryHost.{MemoryHost}
 use Rattle.at_day.specs.Days.{IsDayCut, IsDayOf, IsMachineReady, first_machine}
 use Rattle.at_day.specs.declared.days.TheConstants.{LIMIT, INTERVAL}
 use Rattle.at_day.specs.EventOutcomes.{AreDoneOn, EventOutcome, IsDoneOn, events_of, machine_after, passed_events, reports_of}
-use Rattle.at_day.specs.Happening.{Happens, IsUnreported}
+use Rattle.at_day.specs.EventEffects.{Happens, IsUnreported}
 use Rattle.at_day.specs.Machines.{Machine, machine, machine_session, spool_of}
 use Rattle.at_day.specs.Promise.{KeepsPromise}
 use Rattle.at_day.proofs.EffectLemmas.{happens_takes_effect}
@@ -152,7 +152,7 @@ day_of law events count reports first now so all = record {
   keeps = keeps_promise law first so.outcomes so.done;
 }
 
--- no memory was found after them
+-- memory ran out after them
 pub cut_after : EventsHandOnce → (events : List Event) (count : ℕ) (reports : List EventReport) (first now : Machine) →
     IsSoFar events count reports first now → (left : MemoryHost) → IsUnchanged now.host left → IsDayCut events first left
 cut_after law events count reports first now so left same = record {

@@ -8,28 +8,28 @@ use Rattle.at_words.specs.declared.fault.WordsFault.{WordsFault}
 use Rattle.at_words.specs.declared.fault.WordsFault.TheVariants as words
 use Rattle.at_words.specs.declared.tool_request.ToolRequest.{ToolRequest}
 use Rattle.at_words.specs.declared.tool_request.ToolRequest.TheVariants as request
-use Rattle.cause_output.specs.Causes.{words_cause}
+use Rattle.tool_output.specs.Causes.{words_cause}
 use Rattle.command_rules.specs.Ends.{FailsToPrint}
 use Rattle.command_rules.specs.Found.{Asked}
-use Rattle.cause_output.specs.Sinks.{EndsLine, IsCut, IsPut, IsPutInPart, IsPutOrCut, IsSilent, SinkAt, sink_at}
+use Rattle.tool_output.specs.Sinks.{EndsLine, IsCut, IsPut, IsPutInPart, IsPutOrCut, IsSilent, SinkAt, sink_at}
 use Rattle.host_calls.specs.Sink.{Outlet}
 use Rattle.host_calls.specs.declared.fault.SinkFault.{SinkFault}
 use Rattle.host_calls.specs.declared.fault.SinkFault.TheVariants as sink
 use Rattle.listing_text.specs.Cause.{cause_line_of}
 use Rattle.listing_text.specs.declared.cause.Cause.{Cause}
 use Rattle.listing_text.specs.declared.cause.Cause.TheVariants.{Done, Refused, OutputFault, Memory}
-use Rattle.cause_output.specs.Saying.{IsSaid, SaysLine}
-use Rattle.cause_output.specs.Putting.{PutsLines}
+use Rattle.tool_output.specs.SaidLines.{IsSaid, SaysLine}
+use Rattle.tool_output.specs.PutLines.{PutsLines}
 use Rattle.at_day.specs.declared.counts.Counts.{Counts}
 use Rattle.at_day.specs.Laws.{MadeDaysAreReported}
 use Rattle.at_day.specs.Lines.{day_lines}
 use Rattle.at_day.specs.MadeDays.{ComesTo}
 use Rattle.at_day.specs.Programs.{EndsDay, EndsMade, EndsRefused}
-use Rattle.at_day.specs.inside.Making.{PutsDay}
+use Rattle.at_day.specs.inside.DayParts.{PutsDay}
 use Rattle.at_day.proofs.RequestLemmas.{IsDayAsked}
 
-silent : (at : SinkAt) → IsSilent at at
-silent at = record { content = refl; later = omega arith }
+unchecked : (at : SinkAt) → IsSilent at at
+unchecked at = record { content = refl; later = omega arith }
 
 -- Prefixes.
 
@@ -57,14 +57,14 @@ day_put tells count counts old new (Err sink.Failed) comes puts = (
 )
 day_put tells count counts old new (Err sink.Memory) comes puts = inr (record { counts = counts; comes = comes; puts = puts.puts })
 
--- no memory was found before the first of them
+-- memory ran out before the first of them
 pub day_stopped : (tells : Bool) (count : ℕ) (at : SinkAt) (result : Result (Unit {0}) SinkFault) → IsErrAnd result (λ why. why ≡ sink.Memory) →
     PutsDay tells count at at result
 day_stopped tells count at (Ok done) is = absurd is
 day_stopped tells count at (Err why) is =
-    subst (λ (of : SinkFault). PutsDay tells count at at (Err of)) (sym is) (inl (λ known. silent at))
+    subst (λ (of : SinkFault). PutsDay tells count at at (Err of)) (sym is) (inl (λ known. unchecked at))
 
--- What was asked for.
+-- What was requested.
 
 pub ends_asked : (tells : Bool) (asked : Asked) (made : ToolRequest) (count : ℕ) (old new : SinkAt) (cause : Cause) →
     Ok made ≡ asked → made ≡ request.Make count → EndsMade tells count old new cause → EndsDay tells asked old new cause
@@ -72,15 +72,15 @@ ends_asked tells asked made count old new cause is made_is ends =
     subst (λ (of : Asked). EndsDay tells of old new cause) (sym (ap (λ (of : ToolRequest). Ok of) made_is) ∙ is) ends
 
 unread : (tells : Bool) (asked : Asked) (at : SinkAt) → IsDayAsked asked → EndsDay tells asked at at Memory
-unread tells (Ok (request.Make count)) at is = inl (λ known. silent at)
-unread tells (Err words.Usage) at is = record { refused = inr refl; nothing = λ known. silent at }
+unread tells (Ok (request.Make count)) at is = inl (λ known. unchecked at)
+unread tells (Err words.Usage) at is = record { refused = inr refl; nothing = λ known. unchecked at }
 unread tells _ at is = absurd is
 
 pub ends_unasked : (tells : Bool) (asked : Asked) (fault : WordsFault) (at : SinkAt) → IsDayAsked asked →
     Answers {T = ToolRequest} asked (Err fault) → EndsDay tells asked at at (words_cause fault)
 ends_unasked tells asked words.Usage at is answers =
     subst (λ (of : Asked). EndsDay tells of at at (words_cause words.Usage)) answers
-    (record { refused = inl refl; nothing = λ known. silent at })
+    (record { refused = inl refl; nothing = λ known. unchecked at })
 ends_unasked tells asked words.BadQueue at is answers = absurd (subst IsDayAsked (sym answers) is)
 ends_unasked tells asked words.Memory at is answers = unread tells asked at is
 

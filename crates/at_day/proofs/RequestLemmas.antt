@@ -1,4 +1,4 @@
--- What words of atday ask for: a day of at most so many events, or they are refused.
+-- What words of atday request: a day of at most so many events, or they are refused.
 use Rattle.std.proofs.Common.{◌≡◌, ◌≤◌, ℕ, Bool, true, false, List, refl, arith, codes, drop, if◌then◌else◌}
 use Rattle.std.proofs.lemmas.Bool.Decides.{nat_tests}
 use Rattle.std.specs.Prelude.{◌-◌, ◌&&◌, [], ◌∷◌, Option, Some, None, Ok, Err, nat_le, option_map}
@@ -20,7 +20,7 @@ use Rattle.at_words.specs.declared.tool_request.ToolRequest.TheVariants as reque
 use Rattle.command_rules.specs.Found.{Asked}
 use Rattle.at_words.specs.declared.atday.TheConstants.{MAX_EVENTS}
 use Rattle.at_day.specs.Programs.{asks_for_day, finds_day_maker}
-use Rattle.at_day.specs.inside.Making.{IsDayRequest}
+use Rattle.at_day.specs.inside.DayParts.{IsDayRequest}
 
 -- a day, or a refusal
 abbrev pub IsDayAsked : Asked → Type 0

@@ -1,23 +1,23 @@
--- The host of a made day: none of its calls fails, and its folder is never damaged.
+-- The host of a simulated run: none of its calls fails, and its directory is never damaged.
 use Rattle.std.proofs.Common.{◌≡◌, ◌++◌, [], ◌∷◌, ℕ, List, sym, ap, subst, ◌∙◌, refl, inl, inr, arith, length, append-nil}
 use Rattle.std.specs.Prelude.{Option, Result, Ok, Err, false, option_to_list}
 use Rattle.std.specs.List.{list_any}
 use Rattle.std.specs.Cmp.Lexicographic.{nat_list_cmp_total}
 use Rattle.std.specs.FinMap.{empty, entries, entries-insert, len-empty, len-entries}
 use Rattle.command_rules.specs.Found.{deny_file}
-use Rattle.day_events.specs.declared.event.Event.{Event}
-use Rattle.day_events.specs.declared.event.Event.TheVariants.{Command, Turn, Reboot}
-use Rattle.day_events.specs.declared.report.EventReport.{EventReport}
-use Rattle.day_events.specs.declared.report.EventReport.TheVariants as known
+use Rattle.at_day.specs.declared.event.Event.{Event}
+use Rattle.at_day.specs.declared.event.Event.TheVariants.{Command, Turn, Reboot}
+use Rattle.at_day.specs.declared.events_report.EventReport.{EventReport}
+use Rattle.at_day.specs.declared.events_report.EventReport.TheVariants as known
 use Rattle.headline.specs.Effects.{world_after}
 use Rattle.host_calls.specs.Causes.{Rose}
-use Rattle.host_calls.specs.Folder.{Files, IsImage, name_cmp}
+use Rattle.host_calls.specs.Directory.{Files, IsImage, name_cmp}
 use Rattle.host_calls.specs.Session.{Session}
 use Rattle.host_calls.specs.World.{World, reading}
-use Rattle.host_calls.proofs.FolderLemmas.{reading_is_image}
+use Rattle.host_calls.proofs.DirectoryLemmas.{reading_is_image}
 use Rattle.step_runs.specs.Current.{EachShows}
-use Rattle.day_events.specs.Made.{made_events}
-use Rattle.day_events.specs.Plans.{made_plan}
+use Rattle.at_day.specs.Made.{made_events}
+use Rattle.at_day.specs.Plans.{made_plan}
 use Rattle.memory_host.specs.Host.{IsNew, memory_session, memory_world}
 use Rattle.memory_host.specs.Laws.{HasNoFault}
 use Rattle.memory_host.specs.Spelling.{spelled}
@@ -31,16 +31,16 @@ use Rattle.host_calls.specs.declared.store_fault.StoreFault.{StoreFault}
 use Rattle.host_calls.specs.declared.store_fault.StoreFault.TheVariants as fault
 use Rattle.at_day.specs.declared.counts.Counts.{Counts}
 use Rattle.at_day.specs.declared.report.DayReport.{DayReport}
-use Rattle.at_day.specs.Counting.{CountsBy, IsTableCounted}
+use Rattle.at_day.specs.JobCounts.{CountsBy, IsTableCounted}
 use Rattle.at_day.specs.Days.{IsDay, IsDayOf, first_machine}
 use Rattle.at_day.specs.EventOutcomes.{AreDoneOn, EventOutcome, events_of, machine_after, passed_events}
-use Rattle.at_day.specs.Happening.{Happens}
+use Rattle.at_day.specs.EventEffects.{Happens}
 use Rattle.at_day.specs.Machines.{Machine, machine_session, spool_of}
 use Rattle.at_day.specs.MadeDays.{ComesTo, deny_alone, lacks_memory}
-use Rattle.at_day.specs.inside.Making.{IsCountedOrMemory}
+use Rattle.at_day.specs.inside.DayParts.{IsCountedOrMemory}
 use Rattle.at_day.proofs.MadeLemmas.{LightNoFuse, LightsNoFuse, made_events_light_none}
 
--- What the folder shows at first.
+-- What the directory shows at first.
 
 no_length : (files : List (List ℕ × List ℕ)) → length files ≡ 0 → files ≡ []
 no_length [] none = refl
@@ -59,7 +59,7 @@ unfolding shown_by journal_in
 no_jobs = ap shown one_file
 
 pub shows_at_first : (count : ℕ) (host : MemoryHost) → IsNew deny_alone (made_plan count) host →
-    EachShows (memory_world host).now.folder (without_jobs 0)
+    EachShows (memory_world host).now.directory (without_jobs 0)
 shows_at_first count host new image is =
     subst (λ (files : Files). Shows files (without_jobs 0)) (sym (new.settled image is)) no_jobs
 
@@ -70,14 +70,14 @@ world_left first [] = refl
 world_left first (outcome ∷ later) = world_left outcome.left later
 
 pub table_after : (events : List Event) (reports : List EventReport) (first left : MemoryHost) →
-    IsDayOf events reports (first_machine first) left → (opening : JobTable) → EachShows (memory_world first).now.folder opening →
+    IsDayOf events reports (first_machine first) left → (opening : JobTable) → EachShows (memory_world first).now.directory opening →
     (table : JobTable) × Shows (reading (memory_world left)) table
 table_after events reports first left day opening shows =
     let after : world_after (memory_world first) (passed_events day.outcomes) ≡ memory_world left =
     world_left (first_machine first) day.outcomes ∙ ap memory_world day.last_is in
     let shown_so = (day.keeps opening shows).shows (reading (memory_world left))
-    (subst (λ (world : World). IsImage world.now.folder (reading (memory_world left))) (sym after)
-    (reading_is_image (memory_world left).now.folder)) in
+    (subst (λ (world : World). IsImage world.now.directory (reading (memory_world left))) (sym after)
+    (reading_is_image (memory_world left).now.directory)) in
     (shown_so.0, shown_so.1)
 
 -- What it was made as stays.
@@ -111,7 +111,7 @@ as_made_after events reports first left day none =
     sym (ap (λ (host : MemoryHost). (memory_session host).made_as) day.last_is)
     ∙ as_made (first_machine first) day.outcomes day.done (subst LightNoFuse (sym day.events_are) none)
 
--- So nothing but want of memory is in the way of its counts.
+-- So nothing but an out-of-memory error is in the way of its counts.
 
 no_rise : (before now : ℕ) → now ≡ 0 → Rose before now → ⊥
 no_rise before now none rose = omega arith

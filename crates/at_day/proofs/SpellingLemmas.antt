@@ -9,13 +9,13 @@ use Rattle.at_words.specs.Requests.{request_of}
 use Rattle.at_words.specs.Tools.{tool_of_words}
 use Rattle.at_commands.specs.Served.{IsNotServed}
 use Rattle.at_commands.proofs.ServedLemmas.{not_served}
-use Rattle.day_events.specs.Days.{is_day_tool}
-use Rattle.cause_output.specs.declared.caller.Caller.{Caller}
+use Rattle.at_day.specs.EventsDays.{is_day_tool}
+use Rattle.tool_output.specs.declared.caller.Caller.{Caller}
 use Rattle.command_rules.specs.Checks.{Check}
 use Rattle.command_rules.specs.Ends.{CommandEnds, FailsToPrint}
-use Rattle.cause_output.specs.Outside.{Holding, holding}
+use Rattle.tool_output.specs.Outside.{Holding, holding}
 use Rattle.command_rules.specs.Found.{Asked, answers_read}
-use Rattle.cause_output.specs.Sinks.{SaysBy, SinkAt, sink_at}
+use Rattle.tool_output.specs.Sinks.{SaysBy, SinkAt, sink_at}
 use Rattle.host_calls.specs.Causes.{Rose}
 use Rattle.host_calls.specs.Clock.{Answers, Readers, with_now}
 use Rattle.host_calls.specs.Inputs.{Contents}
@@ -40,9 +40,9 @@ use Rattle.memory_host.specs.Sink.{sink_spelling}
 use Rattle.memory_host.proofs.InputsLemmas.{inputs_keep}
 use Rattle.memory_host.proofs.ReadingsLemmas.{readings_keep}
 use Rattle.memory_host.proofs.SinkLemmas.{sink_keeps}
-use Rattle.at_day.specs.Giving.{HasReadClock, IsGiven, all_known, at_first, at_last, unfailing}
+use Rattle.at_day.specs.GivenCommand.{HasReadClock, IsGiven, all_known, at_first, at_last, unfailing}
 
--- the words of a tool of a day ask for no daemon
+-- the words of a tool of a day request no daemon
 alone_by : (words : List (List ℕ)) (found : Option (Tool × ℕ)) → tool_of_words words ≡ found → is_day_tool found ≡ true →
     IsNotServed (request_of words)
 alone_by words None found is = cc
@@ -56,7 +56,7 @@ alone_by words (Some (Atday, start)) found is = cc
 pub ends_alone : (words : List (List ℕ)) → is_day_tool (tool_of_words words) ≡ true → IsNotServed (request_of words)
 ends_alone words is = alone_by words (tool_of_words words) refl is
 
--- a count that stands at 0 has not risen
+-- a count that is at 0 has not risen
 no_rise : (before now : ℕ) → before ≡ 0 → now ≡ 0 → Rose before now → ⊥
 no_rise before now first last rose =
     let rises : Rose 0 0 = subst (λ (count : ℕ). Rose 0 count) last (subst (λ (count : ℕ). Rose count now) first rose) in omega arith

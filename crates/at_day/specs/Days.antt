@@ -2,14 +2,14 @@
 use Rattle.std.specs.Prelude.{◌≡◌, ◌++◌, List}
 use Rattle.daemon_turn.specs.Daemons.{new_daemon}
 use Rattle.daemon_turn.specs.Kids.{AreChildren}
-use Rattle.day_events.specs.declared.event.Event.{Event}
-use Rattle.day_events.specs.declared.report.EventReport.{EventReport}
+use Rattle.at_day.specs.declared.event.Event.{Event}
+use Rattle.at_day.specs.declared.events_report.EventReport.{EventReport}
 use Rattle.host_calls.specs.Session.{IsOutside}
 use Rattle.memory_host.specs.Host.{IsUnchanged}
 use Rattle.memory_host.specs.declared.memory_host.MemoryHost.{MemoryHost}
 use Rattle.at_day.specs.declared.days.TheConstants.{LIMIT, INTERVAL}
 use Rattle.at_day.specs.declared.report.DayReport.{DayReport}
-use Rattle.at_day.specs.Counting.{IsTableCounted}
+use Rattle.at_day.specs.JobCounts.{IsTableCounted}
 use Rattle.at_day.specs.EventOutcomes.{AreDoneOn, EventOutcome, events_of, machine_after, reports_of}
 use Rattle.at_day.specs.Machines.{Machine, machine, machine_session}
 use Rattle.at_day.specs.Promise.{KeepsPromise}
@@ -33,7 +33,7 @@ pub record IsDayOf (events : List Event) (reports : List EventReport) (first : M
   pub last_is : (machine_after first outcomes).host ≡ left
   pub keeps : KeepsPromise first outcomes
 
--- No memory was found on the way: the first of the events have outcomes, the last of these perhaps not reported, and the host
+-- Memory ran out on the way: the first of the events have outcomes, the last of these perhaps not reported, and the host
 -- is as they left it.
 pub record IsDayCut (events : List Event) (first : Machine) (left : MemoryHost) : Type 0 where
   pub outcomes : List EventOutcome
@@ -43,7 +43,7 @@ pub record IsDayCut (events : List Event) (first : Machine) (left : MemoryHost) 
   pub as_left : IsUnchanged (machine_after first outcomes).host left
   pub keeps : KeepsPromise first outcomes
 
--- What a day reports: the report of each event, and what the folder counts that they leave.
+-- What a day reports: the report of each event, and what the directory counts that they leave.
 pub record IsDay (events : List Event) (old new : MemoryHost) (report : DayReport) : Type 0 where
   pub between : MemoryHost
   pub day : IsDayOf events report.events (first_machine old) between

@@ -1,27 +1,27 @@
 -- The outcomes of the events of a day (own): what happened with each, what it did to the spool, and the machine that it left.
 use Rattle.std.specs.Prelude.{◌≡◌, [], ◌∷◌, ℕ, ℤ, Bool, true, false, List, Option, Some, MatchBool, map}
 use Rattle.at_words.specs.Requests.{request_of}
-use Rattle.cause_output.specs.declared.caller.Caller.{Caller}
+use Rattle.tool_output.specs.declared.caller.Caller.{Caller}
 use Rattle.command_rules.specs.Checks.{of_output}
 use Rattle.command_rules.specs.Found.{Finds, Found, is_submission}
 use Rattle.command_rules.specs.Requested.{AreAskedSteps, OrNone}
-use Rattle.host_session.specs.declared.turn_end.TurnEnd.{TurnEnd}
-use Rattle.host_session.specs.declared.turn_end.TurnEnd.TheVariants.{Done, Busy, FileFault, Damaged, Memory}
+use Rattle.host_calls.specs.declared.turn_end.TurnEnd.{TurnEnd}
+use Rattle.host_calls.specs.declared.turn_end.TurnEnd.TheVariants.{Done, Busy, FileFault, Damaged, Memory}
 use Rattle.spool_model.specs.declared.turn_step.TurnStep.{TurnStep}
-use Rattle.daemon_turn.specs.Starting.{Turn as TurnOf, turn_of}
+use Rattle.daemon_turn.specs.StartOrder.{Turn as TurnOf, turn_of}
 use Rattle.spool_model.specs.StepsOf.{steps_of_turn}
 use Rattle.daemon_turn.specs.Turning.{AreFirstSteps, AreTurnSteps, IsStepsPrefix}
-use Rattle.day_events.specs.declared.event.Event.{Event}
-use Rattle.day_events.specs.declared.event.Event.TheVariants.{Command, Turn, Reboot}
-use Rattle.day_events.specs.declared.report.EventReport.{EventReport}
-use Rattle.day_events.specs.declared.report.EventReport.TheVariants as known
+use Rattle.at_day.specs.declared.event.Event.{Event}
+use Rattle.at_day.specs.declared.event.Event.TheVariants.{Command, Turn, Reboot}
+use Rattle.at_day.specs.declared.events_report.EventReport.{EventReport}
+use Rattle.at_day.specs.declared.events_report.EventReport.TheVariants as known
 use Rattle.headline.specs.Effects.{TakesEffect, IsEffectOf, Effect, Passed, Untouched, Partial, Whole, Crashed}
 use Rattle.host_calls.specs.declared.child.Ending.{Ending}
 use Rattle.listing_text.specs.Cause.{is_done_cause}
 use Rattle.memory_host.specs.Inputs.{given_contents}
 use Rattle.spool_model.specs.declared.step.Step.{Step}
 use Rattle.spool_model.specs.JobTable.{JobTable}
-use Rattle.at_day.specs.Happening.{Happens, full_turn}
+use Rattle.at_day.specs.EventEffects.{Happens, full_turn}
 use Rattle.at_day.specs.Machines.{Machine, spool_of}
 
 -- The steps of a command that is given at the second with the input, on the table. A refused one has none.

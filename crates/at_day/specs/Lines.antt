@@ -1,4 +1,4 @@
--- The lines in which a made day tells what it came to (own).
+-- The lines in which a simulated run tells what it came to (own).
 use Rattle.std.specs.Prelude.{◌++◌, [], ◌∷◌, ℕ, List, codes}
 use Rattle.std.specs.Fmt.{decimal}
 use Rattle.at_day.specs.declared.counts.Counts.{Counts}
@@ -7,7 +7,7 @@ use Rattle.at_day.specs.declared.counts.Counts.{Counts}
 unfoldable pub count_line : List ℕ → ℕ → List ℕ
 count_line what count = what ++ codes " " ++ decimal count ++ codes "\n"
 
--- the lines of a day of so many events, by what its folder counts
+-- the lines of a day of so many events, by what its directory counts
 unfoldable pub day_lines : ℕ → Counts → List (List ℕ)
 day_lines events counts =
     count_line (codes "events") events

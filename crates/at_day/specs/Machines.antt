@@ -1,6 +1,6 @@
 -- A machine at one moment (own).
 use Rattle.daemon_turn.specs.Daemons.{DaemonState}
-use Rattle.daemon_turn.specs.Leaving.{DaemonAt}
+use Rattle.daemon_turn.specs.TurnOutcome.{DaemonAt}
 use Rattle.host_calls.specs.Session.{Session}
 use Rattle.host_calls.specs.World.{World}
 use Rattle.memory_host.specs.Host.{memory_session, memory_world}
@@ -18,7 +18,7 @@ machine host daemon = record { host = host; daemon = daemon }
 abbrev pub machine_session : Machine → Session
 machine_session at = memory_session at.host
 
--- the moments of its spool folder
+-- the moments of its spool directory
 abbrev pub spool_of : Machine → World
 spool_of at = memory_world at.host
 

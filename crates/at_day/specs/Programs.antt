@@ -1,7 +1,7 @@
--- The program (own): every tool, and beside them the days that are made from a number.
+-- The program (own): every tool, and next to them the days that are made from a number.
 use Rattle.std.specs.Prelude.{◌≡◌, ◌≢◌, ◌⊎◌, ℕ, Bool, true, false, List, Option, Some, None, Ok, Err, codes}
 use Rattle.std.specs.List.{concat}
-use Rattle.cause_output.specs.Outside.{OutsideAt}
+use Rattle.tool_output.specs.Outside.{OutsideAt}
 use Rattle.at_commands.specs.Tools.{tool_name_of}
 use Rattle.at_words.specs.declared.fault.WordsFault.{WordsFault}
 use Rattle.at_words.specs.declared.fault.WordsFault.TheVariants as words
@@ -10,10 +10,10 @@ use Rattle.at_words.specs.declared.tool.Tool.TheVariants.{At, Batch, Atq, Atrm, 
 use Rattle.at_words.specs.declared.tool_request.ToolRequest.TheVariants as request
 use Rattle.at_words.specs.Requests.{request_of}
 use Rattle.at_words.specs.Tools.{tool_of_words}
-use Rattle.cause_output.specs.declared.caller.Caller.{Caller}
+use Rattle.tool_output.specs.declared.caller.Caller.{Caller}
 use Rattle.command_rules.specs.Ends.{CommandEnds, StopsBeforeLock}
 use Rattle.command_rules.specs.Found.{Asked}
-use Rattle.cause_output.specs.Sinks.{EndsLine, IsPut, IsPutInPart, IsSilent, SaysBy, SinkAt}
+use Rattle.tool_output.specs.Sinks.{EndsLine, IsPut, IsPutInPart, IsSilent, SaysBy, SinkAt}
 use Rattle.host_calls.specs.Causes.{Rose}
 use Rattle.host_calls.specs.Session.{IsLeft}
 use Rattle.host_calls.specs.World.{TimePasses}
@@ -53,26 +53,26 @@ abbrev pub TellsNothing : Bool → SinkAt → SinkAt → Type 0
 TellsNothing tells old new = tells ≡ true → IsSilent old new
 
 -- How a day of so many events ends, by its cause: with all of its lines, with a prefix of them where the sink failed, and
--- with a prefix or nothing where no memory was found. There is no other cause.
+-- with a prefix or nothing where memory ran out. There is no other cause.
 abbrev pub EndsMade : Bool → ℕ → SinkAt → SinkAt → Cause → Type 0
 EndsMade tells count old new Done = TellsDay IsPut tells count old new
 EndsMade tells count old new OutputFault = Rose old.faults new.faults × TellsDay IsPutInPart tells count old new
 EndsMade tells count old new Memory = TellsNothing tells old new ⊎ TellsDay IsPutInPart tells count old new
 EndsMade tells count old new _ = ⊥
 
--- The words are refused, unless no memory was found to read them or to say so. Nothing is put.
+-- The words are refused, unless memory ran out to read them or to say so. Nothing is put.
 pub record EndsRefused (tells : Bool) (old new : SinkAt) (cause : Cause) : Type 0 where
   pub refused : (cause ≡ Refused Usage) ⊎ (cause ≡ Memory)
   pub nothing : TellsNothing tells old new
 
--- how words of atday end, by what they ask for
+-- how words of atday end, by what they request
 abbrev pub EndsDay : Bool → Asked → SinkAt → SinkAt → Cause → Type 0
 EndsDay tells (Ok (request.Make count)) old new cause = EndsMade tells count old new cause
 EndsDay tells (Err words.Usage) old new cause = EndsRefused tells old new cause
 EndsDay tells _ old new cause = ⊥
 
--- How the program ends where no daemon is asked for: it starts no child, hands nothing over, reads no load, and does not end
--- while jobs still run. Unless a day is asked for it ends as the commands do: its verdict and order, what each crash on the
+-- How the program ends where no daemon is requested: it starts no child, starts nothing, reads no load, and does not end
+-- while jobs still run. Unless a day is requested it ends as the commands do: its verdict and order, what each crash on the
 -- way and each image of the end show, and what is printed and said.
 pub record EndsUnservedUnlessDay (words : List (List ℕ)) (caller : Caller) (old new : OutsideAt) (cause : Cause) : Type 0 where
   pub left : IsLeft old.session new.session
@@ -84,7 +84,7 @@ pub record EndsUnservedUnlessDay (words : List (List ℕ)) (caller : Caller) (ol
   pub unasked : (fault : WordsFault) → request_of words ≡ Err fault → new.session ≡ old.session
   pub before_lock : StopsBeforeLock cause → new.session ≡ old.session
 
--- What words of atday do: what is handed over stays as it is but for the two sinks, and the day that they ask for was made
+-- What words of atday do: what is started stays as it is but for the two sinks, and the day that they request was made
 -- and told, or the words are refused; and then the line of the cause is said.
 pub record MakesDay {H R I : Type 0} (asked : Asked) (host_old host_new : H) (readings_old readings_new : R)
     (inputs_old inputs_new : I) (old new : OutsideAt) (cause : Cause) : Type 0 where

@@ -1,19 +1,18 @@
-//! What a spool folder counts.
+//! What a spool directory counts.
 ghost use Rattle.std.specs.Prelude.{◌≡◌, ◌<◌, ◌^◌, count_by, length};
 ghost use Rattle.host_calls.specs.Session.{IsInside, IsOutside, StaysInside};
 ghost use Rattle.step_runs.specs.Attempts.{IsUnbegun};
 ghost use Rattle.memory_host.specs.Host.{memory_session, memory_world};
-ghost use Rattle.at_day.specs.Counting.{CountsBy, IsTableCounted, is_running_row, is_waiting_row, was_finished, was_interrupted, was_not_started, was_removed};
+ghost use Rattle.at_day.specs.JobCounts.{CountsBy, IsTableCounted, is_running_row, is_waiting_row, was_finished, was_interrupted, was_not_started, was_removed};
 
 use crate::Counts;
-use host_calls::{Ending, EnterFault};
-use host_session::in_session;
+use host_calls::{Ending, EnterFault, in_session};
 use memory_host::MemoryHost;
 use spool_model::{Decided, Fate, Row, State};
 use spool_store::{Store, StoreFault};
 use std::alloc::Global;
 
-/// What a recovery of the folder counts, in a session of its own.
+/// What a recovery of the directory counts, in a session of its own.
 pub fn counts(alloc: Global, host: &mut MemoryHost) -> Result<Counts, StoreFault>
     requires { IsOutside (memory_session host.old) }
     ensures { IsTableCounted host.old host.new result }

@@ -1,4 +1,4 @@
-//! How many jobs a spool folder has of each kind.
+//! How many jobs a spool directory has of each kind.
 
 /// The number that was drawn last, and how many jobs are pending, run, and are done, by how they were done.
 #[derive(Clone, Copy, Debug, PartialEq, Eq)]

@@ -1,15 +1,14 @@
 //! A day: events on one machine, one after the other.
 ghost use Rattle.std.specs.Prelude.{◌≡◌, true, IfOk, OnErr};
 ghost use Rattle.std.specs.List.{list_all};
-ghost use Rattle.day_events.specs.Days.{is_day_event};
+ghost use Rattle.at_day.specs.EventsDays.{is_day_event};
 ghost use Rattle.host_calls.specs.Session.{IsOutside};
 ghost use Rattle.memory_host.specs.Host.{memory_session};
 ghost use Rattle.at_day.specs.Days.{IsDay, IsDayCut, IsDayOf, first_machine};
 
 use crate::count_jobs::counts;
-use crate::{DayReport, one_event};
+use crate::{DayReport, Event, EventReport, EventReports, one_event};
 use daemon_turn::Daemon;
-use day_events::{Event, EventReport, EventReports};
 use memory_host::MemoryHost;
 use std::alloc::{AllocError, Global};
 
@@ -19,7 +18,8 @@ pub const LIMIT: u32 = 150;
 /// The seconds between two starts in batch queues that it has.
 pub const INTERVAL: u32 = 60;
 
-/// Makes the events happen, one after the other, with a daemon that has no kids at first, and counts what they leave.
+/// Makes the events happen, one after the other, with a daemon that has no children at first, and counts what they
+/// leave.
 pub fn day(alloc: Global, events: &[Event], host: &mut MemoryHost) -> Result<DayReport, AllocError>
     requires of_day { list_all is_day_event events.now ≡ true }
     requires outside { IsOutside (memory_session host.old) }

@@ -6,7 +6,7 @@ use crate::Counts;
 use host_calls::Bytes;
 use std::alloc::{AllocError, Global};
 
-/// The lines of a day of so many events, by what its folder counts.
+/// The lines of a day of so many events, by what its directory counts.
 pub(crate) fn day_lines(
     alloc: Global,
     events: u32,

@@ -1,26 +1,25 @@
 //! Days that are made from a number.
 ghost use Rattle.std.specs.Prelude.{◌≡◌, ◌≤◌, IfOk, Ok};
 ghost use Rattle.std.specs.List.{list_any};
-ghost use Rattle.cause_output.specs.Sinks.{sink_at};
-ghost use Rattle.day_events.specs.Plans.{made_plan};
+ghost use Rattle.tool_output.specs.Sinks.{sink_at};
+ghost use Rattle.at_day.specs.Plans.{made_plan};
 ghost use Rattle.memory_host.specs.Host.{IsNew};
 ghost use Rattle.at_day.specs.MadeDays.{ComesTo, deny_alone, lacks_memory};
-ghost use Rattle.at_day.specs.inside.Making.{IsCountedOrMemory, PutsDay};
+ghost use Rattle.at_day.specs.inside.DayParts.{IsCountedOrMemory, PutsDay};
 
 use crate::lines::day_lines;
-use crate::{Counts, day};
+use crate::{Counts, EventReport, Made, day, make_events};
 use at_words::MAX_EVENTS;
-use cause_output::put_lines;
 use command_rules::deny_name;
 use daemon_turn::TurnEnd;
-use day_events::{EventReport, Made, make_events};
 use host_calls::{Sink, SinkFault};
 use listing_text::Cause;
 use memory_host::{Files, MemoryHost, Plan};
 use spool_store::StoreFault;
 use std::alloc::{AllocError, Global};
+use tool_output::put_lines;
 
-/// Makes the day of so many events, and puts the lines of what it comes to.
+/// Makes the day of so many events, and puts the lines of its result.
 pub(crate) fn put_day<O: Sink>(alloc: Global, count: u32, out: &mut O) -> Result<(), SinkFault>
     requires { count ≤ MAX_EVENTS }
     ensures made_as { (O.outlet out.new).made_as ≡ (O.outlet out.old).made_as }
@@ -32,7 +31,8 @@ pub(crate) fn put_day<O: Sink>(alloc: Global, count: u32, out: &mut O) -> Result
     put_lines(alloc, lines.as_slice(), out)
 }
 
-// What the made day of so many events comes to. There is nothing to tell of a day that an event of it found no memory in.
+// What the simulated run of so many events comes to. There is nothing to tell of a day that an event of it ran out of
+// memory in.
 fn made_day(alloc: Global, count: u32) -> Result<Counts, AllocError>
     requires { count ≤ MAX_EVENTS }
     ensures { IfOk result (ComesTo count) }
@@ -47,7 +47,7 @@ fn made_day(alloc: Global, count: u32) -> Result<Counts, AllocError>
     Ok(counts)
 }
 
-/// A spool folder with an empty list of users who may not use `at`, and no other file.
+/// A spool directory with an empty list of users who may not use `at`, and no other file.
 pub fn spool_of_day(alloc: Global, plan: Plan) -> Result<MemoryHost, AllocError>
     ensures { IfOk result (IsNew deny_alone plan) }
 {
@@ -56,7 +56,7 @@ pub fn spool_of_day(alloc: Global, plan: Plan) -> Result<MemoryHost, AllocError>
     MemoryHost::make(alloc, files, plan)
 }
 
-// The counts, of which want of memory alone can be in the way.
+// The counts, of which an out-of-memory error alone can be in the way.
 fn sound_counts(counts: Result<Counts, StoreFault>) -> Result<Counts, AllocError>
     requires { IsCountedOrMemory counts }
     ensures { IfOk result (λ found. counts ≡ Ok found) }
@@ -71,14 +71,14 @@ fn sound_counts(counts: Result<Counts, StoreFault>) -> Result<Counts, AllocError
     }
 }
 
-// Whether an event found no memory.
+// Whether an event ran out of memory.
 fn lack_memory(reports: &[EventReport]) -> bool
     ensures { result ≡ list_any lacks_memory reports.now }
 {
     reports.iter().any(lacks_memory)
 }
 
-// Whether the event found no memory.
+// Whether the event ran out of memory.
 fn lacks_memory(report: &EventReport) -> bool
     ensures { result ≡ lacks_memory report.now }
 {

@@ -1,6 +1,5 @@
 //! What a day reports.
-use crate::Counts;
-use day_events::EventReports;
+use crate::{Counts, EventReports};
 use spool_store::StoreFault;
 
 /// The report of each event, and what a recovery after the last one counts, or why it could not.

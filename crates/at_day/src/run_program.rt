@@ -1,30 +1,30 @@
-//! The program: what its words ask for, done.
+//! The program: what its words request, done.
 ghost use Rattle.std.specs.Prelude.{◌≡◌, ◌<◌, codes, false, map, string_bytes, true};
 ghost use Rattle.at_commands.specs.Outside.{HasRisenAsked, ServesAsked, StaysMade};
-ghost use Rattle.cause_output.specs.Outside.{outside_at};
+ghost use Rattle.tool_output.specs.Outside.{outside_at};
 ghost use Rattle.at_commands.specs.Served.{IsNotServed};
 ghost use Rattle.at_words.specs.declared.tool_request.ToolRequest.TheVariants as request;
 ghost use Rattle.at_words.specs.Requests.{request_of};
-ghost use Rattle.cause_output.specs.Sinks.{EndsLine, sink_at};
+ghost use Rattle.tool_output.specs.Sinks.{EndsLine, sink_at};
 ghost use Rattle.host_calls.specs.Session.{IsOutside};
 ghost use Rattle.listing_text.specs.Cause.{status_of};
 ghost use Rattle.serving.specs.Outside.{EndsOutside};
 ghost use Rattle.at_day.specs.Programs.{EndsDay, EndsUnservedUnlessDay, MakesDay, asks_for_day, makes_days};
-ghost use Rattle.at_day.specs.inside.Making.{IsDayRequest};
+ghost use Rattle.at_day.specs.inside.DayParts.{IsDayRequest};
 
 use crate::made_day::put_day;
 use at_commands::{Caller, command};
 use at_words::{Tool, ToolRequest, request, tool_of};
-use cause_output::say_cause;
 use command_rules::{cause_of_put, cause_of_words};
 use host_calls::{Host, Inputs, Readings, Sink};
 use listing_text::{Cause, Status};
 use std::alloc::Global;
+use tool_output::say_cause;
 
 // The name of the tool that makes days, as it begins its lines.
 const DAY_TOOL: &str = "atday";
 
-/// Does what the words of the tools ask for. Words of `atday` make a day on a host of its own, in memory, and print what
+/// Does what the words of the tools request. Words of `atday` make a day on a host of its own, in memory, and print what
 /// it comes to; they touch neither this host nor the clock nor the input.
 pub fn program<H: Host, R: Readings, I: Inputs, O: Sink, E: Sink>(
     alloc: Global,
@@ -88,7 +88,7 @@ fn makes_days(tool: Tool) -> bool
     matches!(tool, Tool::Atday)
 }
 
-// Makes and tells the day that words of `atday` ask for, and says the line of its cause.
+// Makes and tells the day that words of `atday` request, and says the line of its cause.
 fn answer_day<O: Sink, E: Sink>(alloc: Global, words: &[String], out: &mut O, err: &mut E) -> Status
     requires { asks_for_day (map string_bytes words.now) ≡ true }
     ensures code { result ≡ status_of result.cause }
@@ -103,7 +103,7 @@ fn answer_day<O: Sink, E: Sink>(alloc: Global, words: &[String], out: &mut O, er
     Status::of(say_cause(alloc, DAY_TOOL, cause, err))
 }
 
-// Makes and tells the day that words of `atday` ask for. The line of the cause is still to be said.
+// Makes and tells the day that words of `atday` request. The line of the cause is still to be said.
 fn make_run<O: Sink>(alloc: Global, words: &[String], out: &mut O) -> Cause
     requires { asks_for_day (map string_bytes words.now) ≡ true }
     ensures made_as { (O.outlet out.new).made_as ≡ (O.outlet out.old).made_as }

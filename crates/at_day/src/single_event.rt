@@ -2,18 +2,18 @@
 ghost use Rattle.std.specs.Prelude.{◌≡◌, ◌<◌, [], None, true, IfOk, OnErr, OnOk};
 ghost use Rattle.daemon_turn.specs.Kids.{AreChildren};
 ghost use Rattle.at_words.specs.Tools.{tool_of_words};
-ghost use Rattle.day_events.specs.Days.{is_day_event, is_day_tool};
+ghost use Rattle.at_day.specs.EventsDays.{is_day_event, is_day_tool};
 ghost use Rattle.host_calls.specs.Session.{IsOutside};
 ghost use Rattle.memory_host.specs.Host.{IsUnchanged, memory_session};
 ghost use Rattle.memory_host.specs.MemorySink.{content_so_far, outlet_so_far};
 ghost use Rattle.memory_host.specs.Sink.{sink_spelling};
-ghost use Rattle.at_day.specs.Giving.{GivesReport, IsGiven, IsGivenUnreported};
-ghost use Rattle.at_day.specs.Happening.{Happens, IsAsItWas, IsUnreported, IsUpAgain};
+ghost use Rattle.at_day.specs.GivenCommand.{GivesReport, IsGiven, IsGivenUnreported};
+ghost use Rattle.at_day.specs.EventEffects.{Happens, IsAsItWas, IsUnreported, HasRestarted};
 ghost use Rattle.at_day.specs.Machines.{machine};
 
+use crate::{Event, EventReport, Words};
 use at_commands::{Caller, command};
 use daemon_turn::{Daemon, Mode};
-use day_events::{Event, EventReport, Words};
 use host_calls::Bytes;
 use listing_text::Status;
 use memory_host::{ListReadings, MemoryHost, MemoryInputs, MemorySink};
@@ -114,7 +114,7 @@ fn run_command(
     ))
 }
 
-// Crashes and comes up again, with a daemon that has no kids.
+// Crashes and comes up again, with a daemon that has no children.
 fn reboot(
     alloc: Global,
     pick: u64,
@@ -122,7 +122,7 @@ fn reboot(
     host: &mut MemoryHost,
     daemon: &mut Daemon,
 ) -> Result<(), AllocError>
-    ensures up { OnOk result (IsUpAgain pick fuse (machine host.old daemon.old) (machine host.new daemon.new)) }
+    ensures up { OnOk result (HasRestarted pick fuse (machine host.old daemon.old) (machine host.new daemon.new)) }
     ensures unchanged { OnErr result (IsAsItWas (machine host.old daemon.old) (machine host.new daemon.new)) }
 {
     host.reboot(alloc, pick, fuse)?;

@@ -1,8 +1,8 @@
 -- Sessions are events, one after another.
 use Rattle.std.proofs.Common.{◌≡◌, Bool, true, List, refl, subst}
-use Rattle.mail_session.specs.Leaving.{PostSpool, PostsTo}
-use Rattle.cause_output.specs.Outside.{Telling, WorkAt}
-use Rattle.at_mail.specs.Making.{MakesMailSessions, next_session, no_session}
+use Rattle.mail_session.specs.SessionOutcome.{PostSpool, PostsTo}
+use Rattle.tool_output.specs.Outside.{Telling, WorkAt}
+use Rattle.at_mail.specs.SessionsWithRests.{MakesMailSessions, next_session, no_session}
 use Rattle.at_mail.specs.Once.{MailEvent, MailEvents, ProgramsAreEvents, SessionsAreEvents, a_session, next_event, no_event}
 use Rattle.at_mail.specs.Outcomes.{PostItem}
 

@@ -6,19 +6,19 @@ use Rattle.host_calls.specs.Session.{IsOutside, KeepsCounts}
 use Rattle.host_calls.specs.declared.child.Child.{Child}
 use Rattle.host_calls.specs.declared.fault.SinkFault.{SinkFault}
 use Rattle.host_calls.specs.declared.fault.SinkFault.TheVariants as put
-use Rattle.host_session.proofs.SessionLemmas.{counts_on, no_counts}
+use Rattle.host_calls.proofs.SessionLemmas.{counts_on, no_counts}
 use Rattle.listing_text.specs.declared.cause.Cause.TheVariants as cause
-use Rattle.cause_output.specs.Sinks.{SinkAt}
+use Rattle.tool_output.specs.Sinks.{SinkAt}
 use Rattle.daemon_turn.specs.Kids.{AreChildren, KeepsChildren}
-use Rattle.host_session.specs.declared.turn_end.TurnEnd.{TurnEnd}
-use Rattle.host_session.specs.declared.turn_end.TurnEnd.TheVariants.{Done, Busy, FileFault, Damaged, Memory}
-use Rattle.mail_session.specs.Leaving.{PostSpool}
-use Rattle.cause_output.specs.Outside.{ClockAt, Rests, RestsBefore, RestsOn, Telling, WorkAt}
-use Rattle.at_mail.specs.Making.{IsSession, MakesMailSessions, next_session, no_session, rest_after_sessions, rest_seconds}
+use Rattle.host_calls.specs.declared.turn_end.TurnEnd.{TurnEnd}
+use Rattle.host_calls.specs.declared.turn_end.TurnEnd.TheVariants.{Done, Busy, FileFault, Damaged, Memory}
+use Rattle.mail_session.specs.SessionOutcome.{PostSpool}
+use Rattle.tool_output.specs.Outside.{ClockAt, Rests, RestsBefore, RestsOn, Telling, WorkAt}
+use Rattle.at_mail.specs.SessionsWithRests.{IsSession, MakesMailSessions, next_session, no_session, rest_after_sessions, rest_seconds}
 use Rattle.at_mail.specs.Outcomes.{PostItem, last_session_outcome, session_outcome, outcome_or_done}
 use Rattle.at_mail.specs.declared.outcome.MailOutcome.{MailOutcome}
 use Rattle.at_mail.specs.declared.outcome.MailOutcome.TheVariants.{Own}
-use Rattle.at_mail.specs.inside.Progressing.{HasMade, rest_before}
+use Rattle.at_mail.specs.inside.OneSession.{HasMade, rest_before}
 
 pub last_more : (items : List PostItem) (item : PostItem) → last_session_outcome (items ++ item ∷ []) ≡ session_outcome item.end item.said
 last_more [] item = refl
@@ -56,7 +56,8 @@ children_then : (old middle new : List Child) → KeepsChildren old middle → K
 children_then old middle new first second =
     (first.0 ++ second.0, second.1 ∙ ap (λ (before : List Child). before ++ second.0) first.1 ∙ append_assoc old first.0 second.0)
 
--- What sessions keep, one after another: no session is on, the kids are children, no child is forgotten, no count has fallen.
+-- What sessions keep, one after another: no session is on, the children are children, no child is forgotten, no count has
+-- fallen.
 pub record Keeps (first last : WorkAt PostSpool) : Type 0 where
   pub outside : IsOutside last.spool.session
   pub children : AreChildren last.spool.session.children last.spool.post.kids
@@ -123,7 +124,7 @@ output_rose tells _ first _ (next_session before item last rested after makes go
     let risen : Rose last.said.faults after.said.faults = subst (λ (said : SinkAt). Rose said.faults after.said.faults) rests.said rose in
     omega arith
 
--- One session more.
+-- One more session.
 
 module _ (tells : Telling) (items : List PostItem) (first last rested after : WorkAt PostSpool) (makes : MakesMailSessions tells first items last)
     (goes_on : last_session_outcome items ≡ None) (rests : RestsBefore tells.clock (rest_after_sessions items) last rested) (item : PostItem) (session : IsSession tells item rested after) where

@@ -1,23 +1,23 @@
--- No notice is handed over twice.
+-- No notice is sent twice.
 use Rattle.std.proofs.Common.{◌≡◌, ◌∙◌, ◌⊎◌, ℕ, Bool, true, false, List, [], ◌∷◌, ◌++◌, refl, sym, ap, subst, inl, inr, append-nil, append_assoc}
 use Rattle.std.specs.Prelude.{Option}
 use Rattle.std.specs.FinMap as finite
 use Rattle.std.proofs.lemmas.List.{append_cancel_right}
 use Rattle.host_calls.specs.declared.child.Handed.{Handed}
-use Rattle.host_calls.specs.Folder.{Files, Folder, IsImage}
+use Rattle.host_calls.specs.Directory.{Files, Directory, IsImage}
 use Rattle.host_calls.specs.World.{AllMoments, AnyMoment, HasEachImage, LeavesOnly, Moment, World, moments, reading}
-use Rattle.host_calls.proofs.FolderLemmas.{reading_is_image}
+use Rattle.host_calls.proofs.DirectoryLemmas.{reading_is_image}
 use Rattle.host_calls.proofs.WorldLemmas.{AtEach-append, leaves_weaker}
 use Rattle.at_words.specs.Numbers.{are_distinct}
 use Rattle.spool_model.specs.JobTable.{JobTable}
-use Rattle.host_session.specs.declared.turn_end.TurnEnd.{TurnEnd}
-use Rattle.host_session.specs.declared.turn_end.TurnEnd.TheVariants.{Done, Busy, FileFault, Damaged, Memory}
+use Rattle.host_calls.specs.declared.turn_end.TurnEnd.{TurnEnd}
+use Rattle.host_calls.specs.declared.turn_end.TurnEnd.TheVariants.{Done, Busy, FileFault, Damaged, Memory}
 use Rattle.mail_notes.specs.declared.note.Note.{Note}
 use Rattle.mail_notes.specs.Hands.{Mailing}
 use Rattle.mail_notes.specs.Names.{mail_file}
 use Rattle.mail_notes.specs.Notes.{IsNotesPrefix, has_closing_note, has_note_of}
 use Rattle.mail_session.specs.Dues.{sent_numbers}
-use Rattle.mail_session.specs.Leaving.{HasReadNotes, IsMailIdle, IsMailStopped, IsMailDone, MailLeaves, PostSpool, mailing_of}
+use Rattle.mail_session.specs.SessionOutcome.{HasReadNotes, IsMailIdle, IsMailStopped, IsMailDone, MailLeaves, PostSpool, mailing_of}
 use Rattle.mail_session.specs.Sessions.{HasPosted, HoldsPrefix, IsPosted, IsMailUntouched}
 use Rattle.at_mail.specs.Once.{HasOnceSince, HasWholeNotes, IsBesideMail, IsCrashOfEvent, LeavesNotes, MailEvent, MailEvents, NoticesAreHandedOnce, a_session, another, crashed, next_event, no_event, notice_numbers}
 use Rattle.at_mail.proofs.SentLemmas.{AreNotes, GivesSpelled, by_now_numbers, closed_more, distinct_both, distinct_left, given_notes, gives_spelled, has, has_either, has_left, holds_spelled, named_of_sent, notes_both, notes_first, numbers_both, one_reading, sent_both, sent_closed, steps_are, steps_distinct, steps_open, unnamed_both, unnamed_first}
@@ -32,8 +32,8 @@ LeavesRetired retired old new = (number : ℕ) → retired number → (table : J
 abbrev pub IsShut : (ℕ → Type 0) → List Note → ℕ → Type 0
 IsShut retired notes number = (has_closing_note number notes ≡ true) ⊎ ((has_note_of number notes ≡ false) × retired number)
 
--- The image spells notes, by which each notice that was handed over since the opening is shut, and no number of these
--- stands twice.
+-- The image spells notes, by which each notice that was sent since the opening is shut, and no number of these
+-- occurs twice.
 pub record IsOnce (retired : ℕ → Type 0) (opening : List Handed) (image : Files) (handed : List Handed) : Type 0 where
   pub given : List Handed
   pub grown : handed ≡ opening ++ given
@@ -53,9 +53,9 @@ same_once retired opening from image had handed is same as_many = record {
   once = is.once;
 }
 
--- what the notes of a session hand over comes to what was handed over before
+-- what the notes of a session hand over comes to what was sent before
 module _ (retired : ℕ → Type 0) (opening : List Handed) (start : Files) (had : List Handed) (base : IsOnce retired opening start had) (files : Files) (table : JobTable)
-    (notes steps : List Note) (are : Rattle.mail_session.specs.Leaving.AreMailSteps files table notes steps) (same : base.notes ≡ notes)
+    (notes steps : List Note) (are : Rattle.mail_session.specs.SessionOutcome.AreMailSteps files table notes steps) (same : base.notes ≡ notes)
     (unnamed : (number : ℕ) → retired number → has_note_of number notes ≡ false → has_note_of number steps ≡ false) where
   before : AreNotes notes
   before = subst AreNotes same (given_notes (finite.get start mail_file) base.notes base.gives)
@@ -113,7 +113,7 @@ module _ (retired : ℕ → Type 0) (opening : List Handed) (old new : World) (i
   module _ (leaves : LeavesRetired retired old new) (table : JobTable) (notes steps : List Note) (read : HasReadNotes table notes steps old new) (of : Mailing) (new_ones : List Note)
       (first : IsNotesPrefix new_ones steps) where
     at_start : IsOnce retired opening (reading old) old.now.handed
-    at_start = inv (reading old) (reading_is_image old.now.folder)
+    at_start = inv (reading old) (reading_is_image old.now.directory)
 
     same_notes : at_start.notes ≡ notes
     same_notes = one_reading (finite.get (reading old) mail_file) at_start.notes notes at_start.gives (gives_spelled (finite.get (reading old) mail_file) notes read.gives)
@@ -123,7 +123,7 @@ module _ (retired : ℕ → Type 0) (opening : List Handed) (old new : World) (i
 
     added : (image : Files) (handed : List Handed) → HoldsPrefix of notes new_ones old.now image handed → IsOnce retired opening image handed
     added image handed is =
-        let files = Rattle.host_calls.specs.Folder.reading_of read.at.folder in
+        let files = Rattle.host_calls.specs.Directory.reading_of read.at.directory in
         let numbers = by_now_numbers of is.prefix image is.given is.hands in
         let after : List Note = is.is_prefix.0 ++ first.0 in
         let split : steps ≡ is.prefix ++ after = first.1 ∙ ap (λ (list : List Note). list ++ first.0) is.is_prefix.1 ∙ append_assoc is.prefix is.is_prefix.0 first.0 in
@@ -224,9 +224,9 @@ crash_keeps retired opening old during new inv keeps crash image is =
     let there : HasEachImage (IsOnce retired opening) crash.at = at_one (HasEachImage (IsOnce retired opening)) (crash.more ++ old.now ∷ []) crash.at each crash.is_one in
     same_once retired opening image image crash.at.handed new.now.handed (there image (crash.images image is)) refl crash.handed
 
-pub whole_once : (retired : ℕ → Type 0) (folder : Folder) (handed : List Handed) → HasWholeNotes folder → (image : Files) → IsImage folder image
+pub whole_once : (retired : ℕ → Type 0) (directory : Directory) (handed : List Handed) → HasWholeNotes directory → (image : Files) → IsImage directory image
     → IsOnce retired handed image handed
-whole_once retired folder handed are image is =
+whole_once retired directory handed are image is =
     let notes = are image is in record {
       given = [];
       grown = sym (append-nil handed);
@@ -238,7 +238,7 @@ whole_once retired folder handed are image is =
 
 pub once_since : (retired : ℕ → Type 0) (opening : List Handed) (last : World) → HasEachImage (IsOnce retired opening) last.now → HasOnceSince opening last.now.handed
 once_since retired opening last inv =
-    let is = inv (reading last) (reading_is_image last.now.folder) in
+    let is = inv (reading last) (reading_is_image last.now.directory) in
     record { given = is.given; grown = is.grown; once = is.once }
 
 -- Without trims no number is retired.
@@ -249,8 +249,8 @@ none_retired number = ⊥
 none_left : (old new : World) → LeavesRetired none_retired old new
 none_left old new number never = absurd never
 
-all_keep : (first last : World) → HasWholeNotes first.now.folder → MailEvents first last → HasEachImage (IsOnce none_retired first.now.handed) last.now
-all_keep first _ are no_event = whole_once none_retired first.now.folder first.now.handed are
+all_keep : (first last : World) → HasWholeNotes first.now.directory → MailEvents first last → HasEachImage (IsOnce none_retired first.now.handed) last.now
+all_keep first _ are no_event = whole_once none_retired first.now.directory first.now.handed are
 all_keep first _ are (next_event before after events event) =
     (event_keeps none_retired first.now.handed before after (all_keep first before are events) (none_left before after) event).now
 all_keep first _ are (crashed before during after events event crash) =

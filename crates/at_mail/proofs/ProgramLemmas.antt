@@ -6,31 +6,31 @@ use Rattle.host_calls.specs.Session.{IsOutside, KeepsCounts, Session}
 use Rattle.host_calls.specs.declared.child.Child.{Child}
 use Rattle.host_calls.specs.declared.fault.SinkFault.{SinkFault}
 use Rattle.host_calls.specs.declared.fault.SinkFault.TheVariants as put
-use Rattle.host_session.proofs.SessionLemmas.{no_counts}
+use Rattle.host_calls.proofs.SessionLemmas.{no_counts}
 use Rattle.listing_text.specs.declared.cause.Cause.{Cause}
 use Rattle.listing_text.specs.declared.cause.Cause.TheVariants as cause
 use Rattle.at_words.specs.Answers.{Answers}
 use Rattle.at_words.specs.declared.fault.WordsFault.{WordsFault}
 use Rattle.at_words.specs.declared.fault.WordsFault.TheVariants as words
-use Rattle.cause_output.specs.Saying.{IsSaid}
-use Rattle.cause_output.specs.Causes.{words_cause}
-use Rattle.cause_output.specs.Sinks.{SinkAt}
+use Rattle.tool_output.specs.SaidLines.{IsSaid}
+use Rattle.tool_output.specs.Causes.{words_cause}
+use Rattle.tool_output.specs.Sinks.{SinkAt}
 use Rattle.daemon_turn.specs.Kids.{AreChildren, KeepsChildren}
-use Rattle.host_session.specs.declared.turn_end.TurnEnd.{TurnEnd}
-use Rattle.host_session.specs.declared.turn_end.TurnEnd.TheVariants.{Done, Busy, FileFault, Damaged, Memory}
+use Rattle.host_calls.specs.declared.turn_end.TurnEnd.{TurnEnd}
+use Rattle.host_calls.specs.declared.turn_end.TurnEnd.TheVariants.{Done, Busy, FileFault, Damaged, Memory}
 use Rattle.mail_session.specs.PostState.{PostState, new_post}
-use Rattle.cause_output.specs.Outside.{OutsideAt, Telling, WorkAt}
-use Rattle.mail_session.specs.Leaving.{PostSpool}
-use Rattle.at_mail.specs.Making.{MakesMailSessions, next_session, no_session}
+use Rattle.tool_output.specs.Outside.{OutsideAt, Telling, WorkAt}
+use Rattle.mail_session.specs.SessionOutcome.{PostSpool}
+use Rattle.at_mail.specs.SessionsWithRests.{MakesMailSessions, next_session, no_session}
 use Rattle.at_mail.specs.Outcomes.{PostItem, last_session_outcome, session_outcome, outcome_or_done, mail_program}
 use Rattle.at_mail.specs.Program.{PostsSessions, HasMadeNoSession, PostEnds, SaysMailOutcome, work_with}
 use Rattle.at_mail.specs.declared.outcome.MailOutcome.{MailOutcome}
 use Rattle.at_mail.specs.declared.outcome.MailOutcome.TheVariants.{OfSession, Own}
 use Rattle.at_mail.specs.declared.request.PostRequest.{PostRequest}
-use Rattle.at_mail.specs.inside.Progressing.{HasMade}
+use Rattle.at_mail.specs.inside.OneSession.{HasMade}
 use Rattle.at_mail.proofs.MakingLemmas.{children_same, keeps_all, last_more, output_rose}
 
--- What the words ask for is told apart.
+-- What the words request is told apart.
 same_fault : (asked : Result PostRequest WordsFault) (one other : WordsFault) → Err one ≡ asked → asked ≡ Err other → one ≡ other
 same_fault asked one other first second = let same : ◌≡◌ {A = Result PostRequest WordsFault} (Err one) (Err other) = first ∙ second in cc
 
@@ -40,7 +40,7 @@ not_both asked fault request first second = let no : ◌≡◌ {A = Result PostR
 same_request : (one other : PostRequest) → ◌≡◌ {A = Result PostRequest WordsFault} (Ok one) (Ok other) → one ≡ other
 same_request one other same = cc
 
--- a cause that was said is that, or want of memory
+-- a cause that was said is that, or an out-of-memory error
 said_other : (of : Cause) (tells : Bool) (old new : SinkAt) (final : Cause) → IsSaid mail_program tells of old new final → of ≢ cause.OutputFault → final ≡ cause.OutputFault → ⊥
 said_other of tells old new final (inl says) other is = other (sym says.0 ∙ is)
 said_other of tells old new final (inr lacks) other is = let no : cause.Memory ≡ cause.OutputFault = sym lacks.1 ∙ is in cc
@@ -66,7 +66,7 @@ module _ (asked : Result PostRequest WordsFault) (old new : OutsideAt) (final : 
     posts = posts;
   }
 
-  -- words that ask for nothing
+  -- words that request nothing
   pub unasked_ends : (fault : WordsFault) → Answers asked (Err fault) → HasMadeNoSession (words_cause fault) old new final → PostEnds asked old new final
   unasked_ends words.Usage answers is =
       undone_ends (words_cause words.Usage) (words_other words.Usage) is
@@ -79,7 +79,7 @@ module _ (asked : Result PostRequest WordsFault) (old new : OutsideAt) (final : 
   unasked_ends words.Memory answers is =
       undone_ends cause.Memory (words_other words.Memory) is (λ fault was. inr is) (λ request was. inl is)
 
-  -- no memory was found for the post
+  -- memory ran out for the post
   pub unmade_ends : HasMadeNoSession cause.Memory old new final → PostEnds asked old new final
   unmade_ends is = undone_ends cause.Memory (words_other words.Memory) is (λ fault was. inr is) (λ request was. inl is)
 
@@ -114,7 +114,7 @@ session_output : (outcome : Option MailOutcome) → outcome_or_done outcome ≡ 
 session_output None is = absurd (cc)
 session_output (Some outcome) is = ap Some is
 
--- the post had no kids at first
+-- the post had no children at first
 pub no_kids : (children : List Child) (program : List ℕ) → AreChildren children (new_post program).kids
 no_kids children program = record { each = λ kid is. absurd (let less : is.0 < 0 = is.1 in omega arith) }
 

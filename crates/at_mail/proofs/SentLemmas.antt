@@ -8,7 +8,7 @@ use Rattle.std.proofs.lemmas.List.{map-append}
 use Rattle.std.proofs.lemmas.List.Elements.{All-cons, All-contains, All-contains_itself, All-head, All-nil, All-tail, All-weaker, filter-append}
 use Rattle.std.proofs.lemmas.List.Folds.{list_any-append}
 use Rattle.host_calls.specs.declared.child.Handed.{Handed}
-use Rattle.host_calls.specs.Folder.{Files}
+use Rattle.host_calls.specs.Directory.{Files}
 use Rattle.at_words.specs.Numbers.{are_distinct}
 use Rattle.job_name.specs.JobName.{SpellsJobName}
 use Rattle.job_script.specs.HeaderIn.{alike, has_user, header_in}
@@ -30,7 +30,7 @@ use Rattle.mail_notes.proofs.OneText.{one_note_a_line}
 use Rattle.mail_notes.proofs.WritingLemmas.{notes_can_be_written}
 use Rattle.mail_session.specs.declared.due.NoticeDue.{NoticeDue}
 use Rattle.mail_session.specs.Dues.{notes_of, sent_numbers}
-use Rattle.mail_session.specs.Leaving.{AreMailSteps, GivesNotes}
+use Rattle.mail_session.specs.SessionOutcome.{AreMailSteps, GivesNotes}
 use Rattle.mail_session.specs.News.{IsNotedFrom, noting_of}
 use Rattle.mail_session.specs.Steps.{due_of_entry}
 use Rattle.at_mail.specs.Once.{is_notice, notice_numbers}
@@ -92,7 +92,7 @@ distinct_left (number ∷ later) second is =
       less true b never = cc
       less false b never = refl
 
--- What was handed over.
+-- What was sent.
 
 pub numbers_both : (given more : List Handed) → notice_numbers (given ++ more) ≡ notice_numbers given ++ notice_numbers more
 numbers_both given more = ap (map (λ (handed : Handed). handed.number)) (filter-append is_notice given more) ∙ map-append (λ (handed : Handed). handed.number) (filter is_notice given) (filter is_notice more)
@@ -127,7 +127,7 @@ sent_both (Sent number ∷ later) second = ap (λ (rest : List ℕ). number ∷ 
 sent_both (Noted job ∷ later) second = sent_both later second
 sent_both (Dropped number ∷ later) second = sent_both later second
 
--- what was handed over by these notes, the last of which may be wanting, is of the first of their numbers
+-- what was sent by these notes, the last of which may be missing, is of the first of their numbers
 pub by_now_numbers : (of : Mailing) (notes : List Note) (image : Files) (given : List Handed) → SendsNoticesByNow of notes image given
     → (more : List ℕ) × (sent_numbers notes ≡ notice_numbers given ++ more)
 by_now_numbers of notes image given (inl hands) = ([], sym (append-nil (notice_numbers given) ∙ hands_numbers of notes given hands))
@@ -231,17 +231,17 @@ distinct_sents table (job ∷ later) rise =
           (below job.number (sents_in table later) (each_sent (λ number. job.number < number) table later (pairs_head (λ one other. one.number < other.number) job later rise))) rest
     ]
 
-noting_none : (news : List NotedJob) → sent_numbers (noting_of news) ≡ []
+noting_none : (new_jobs : List NotedJob) → sent_numbers (noting_of new_jobs) ≡ []
 noting_none [] = refl
 noting_none (job ∷ later) = noting_none later
 
 module _ (files : Files) (table : JobTable) (notes steps : List Note) (are : AreMailSteps files table notes steps) where
   steps_sent : sent_numbers steps ≡ sents_in table are.due.jobs
   steps_sent =
-      ap sent_numbers are.all ∙ sent_both (noting_of are.news) (notes_of are.dues)
-      ∙ ap (λ (numbers : List ℕ). numbers ++ sent_numbers (notes_of are.dues)) (noting_none are.news) ∙ ap (λ (dues : List NoticeDue). sent_numbers (notes_of dues)) are.due.dues_are
+      ap sent_numbers are.all ∙ sent_both (noting_of are.new_jobs) (notes_of are.due_notices)
+      ∙ ap (λ (numbers : List ℕ). numbers ++ sent_numbers (notes_of are.due_notices)) (noting_none are.new_jobs) ∙ ap (λ (due_notices : List NoticeDue). sent_numbers (notes_of due_notices)) are.due.dues_are
 
-  -- the numbers whose notices a session sends stand once each
+  -- the numbers whose notices a session sends occurs once each
   pub steps_distinct : are_distinct (sent_numbers steps) ≡ true
   steps_distinct = ap are_distinct steps_sent ∙ distinct_sents table are.due.jobs are.due.waiting.rise
 
@@ -254,7 +254,7 @@ module _ (files : Files) (table : JobTable) (notes steps : List Note) (are : Are
 
 -- The text of the notes.
 
--- each can stand in a line
+-- each can be in a line
 abbrev pub AreNotes : List Note → Type 0
 AreNotes [] = Unit {0}
 AreNotes (note ∷ later) = IsNote note × AreNotes later
@@ -333,7 +333,7 @@ noted_is files table job from = (
   },
 )
 
-noting_are : (files : Files) (table : JobTable) (news : List NotedJob) → All (IsNotedFrom files table) news → AreNotes (noting_of news)
+noting_are : (files : Files) (table : JobTable) (new_jobs : List NotedJob) → All (IsNotedFrom files table) new_jobs → AreNotes (noting_of new_jobs)
 noting_are files table [] all = tt
 noting_are files table (job ∷ later) all =
     (noted_is files table job (All-head (IsNotedFrom files table) job later all), noting_are files table later (All-tail (IsNotedFrom files table) job later all))
@@ -350,11 +350,11 @@ dues_are table [] all = tt
 dues_are table (job ∷ later) all =
     due_step job (All-head (λ one. Fits one.number) job later all) (entry_at table job.number) (dues_in table later) (dues_are table later (All-tail (λ one. Fits one.number) job later all))
 
--- the steps of a session can stand in lines, where the notes before them do
+-- the steps of a session can be in lines, where the notes before them do
 pub steps_are : (files : Files) (table : JobTable) (notes steps : List Note) → AreMailSteps files table notes steps → AreNotes notes → AreNotes steps
 steps_are files table notes steps are before = subst AreNotes (sym are.all)
-    (notes_both (noting_of are.news) (notes_of are.dues)
-    (noting_are files table are.news (All-weaker (Contains are.news) (IsNotedFrom files table) are.each are.news (All-contains_itself are.news)))
-    (subst (λ (dues : List NoticeDue). AreNotes (notes_of dues)) (sym are.due.dues_are)
+    (notes_both (noting_of are.new_jobs) (notes_of are.due_notices)
+    (noting_are files table are.new_jobs (All-weaker (Contains are.new_jobs) (IsNotedFrom files table) are.each are.new_jobs (All-contains_itself are.new_jobs)))
+    (subst (λ (due_notices : List NoticeDue). AreNotes (notes_of due_notices)) (sym are.due.dues_are)
     (dues_are table are.due.jobs (All-weaker (Contains are.due.jobs) (λ job. Fits job.number)
     (λ job has. (All-contains IsNote notes (Noted job) (notes_all notes before) (are.due.waiting.each job has).noted).0) are.due.jobs (All-contains_itself are.due.jobs)))))

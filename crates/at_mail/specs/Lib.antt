@@ -1,6 +1,12 @@
-pub mod Making
+pub mod Events
+pub mod Laws
 pub mod Once
 pub mod Outcomes
 pub mod Program
+pub mod SessionsWithRests
+pub mod TrimOutcome
+pub mod TrimProgram
+pub mod TrimWords
+pub mod TrimmedNotes
 pub mod Words
 pub mod inside

@@ -5,10 +5,10 @@ use Rattle.host_calls.specs.declared.fault.SinkFault.{SinkFault}
 use Rattle.host_calls.specs.declared.fault.SinkFault.TheVariants as put
 use Rattle.listing_text.specs.Cause.{cause_line_of}
 use Rattle.listing_text.specs.declared.cause.Cause.TheVariants as cause
-use Rattle.cause_output.specs.Ends.{cause_of_end}
-use Rattle.cause_output.specs.Sinks.{IsCut, IsPut, IsSilent, SinkAt}
-use Rattle.host_session.specs.declared.turn_end.TurnEnd.{TurnEnd}
-use Rattle.host_session.specs.declared.turn_end.TurnEnd.TheVariants.{Done, Busy, FileFault, Damaged, Memory}
+use Rattle.tool_output.specs.Ends.{cause_of_end}
+use Rattle.tool_output.specs.Sinks.{IsCut, IsPut, IsSilent, SinkAt}
+use Rattle.host_calls.specs.declared.turn_end.TurnEnd.{TurnEnd}
+use Rattle.host_calls.specs.declared.turn_end.TurnEnd.TheVariants.{Done, Busy, FileFault, Damaged, Memory}
 use Rattle.at_mail.specs.declared.outcome.MailOutcome.{MailOutcome}
 use Rattle.at_mail.specs.declared.outcome.MailOutcome.TheVariants.{OfSession, Own}
 
@@ -16,7 +16,7 @@ use Rattle.at_mail.specs.declared.outcome.MailOutcome.TheVariants.{OfSession, Ow
 abbrev pub mail_program : List ℕ
 mail_program = codes "atpost"
 
--- A session of the program: how it ended, the numbers of the notices that it handed over, and what the put of its line answered.
+-- A session of the program: how it ended, the numbers of the notices that it sent, and what the put of its line answered.
 pub record PostItem : Type 0 where
   pub end : TurnEnd
   pub sent : List ℕ
@@ -26,7 +26,7 @@ pub record PostItem : Type 0 where
 abbrev pub mail_end_line : TurnEnd → List ℕ
 mail_end_line end = cause_line_of mail_program (cause_of_end end)
 
--- the line was put whole, or up to a fault of the sink; nothing where no memory was found
+-- the line was put whole, or up to a fault of the sink; nothing where memory ran out
 abbrev pub SaysEndBy : List ℕ → SinkAt → SinkAt → Result (Unit {0}) SinkFault → Type 0
 SaysEndBy line old new (Ok done) = IsPut line old new
 SaysEndBy line old new (Err put.Failed) = IsCut line old new
@@ -54,7 +54,7 @@ outcome_cut FileFault = Some (Own cause.OutputFault)
 outcome_cut (Damaged damage) = Some (OfSession (cause.Damaged damage))
 outcome_cut Memory = Some (Own cause.OutputFault)
 
--- and of one that found no memory: that of want of memory may be wanting
+-- and of one that ran out of memory: that of an out-of-memory error may be missing
 abbrev pub outcome_unsaid : TurnEnd → Option MailOutcome
 outcome_unsaid Done = Some (Own cause.Memory)
 outcome_unsaid Busy = Some (Own cause.Memory)
@@ -68,7 +68,7 @@ session_outcome end (Ok done) = outcome_said end
 session_outcome end (Err put.Failed) = outcome_cut end
 session_outcome end (Err put.Memory) = outcome_unsaid end
 
--- what it comes to by the last of its sessions
+-- its result by the last of its sessions
 abbrev pub last_session_outcome : List PostItem → Option MailOutcome
 last_session_outcome [] = None
 last_session_outcome (item ∷ []) = session_outcome item.end item.said

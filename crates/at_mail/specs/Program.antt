@@ -1,10 +1,10 @@
 -- How the program ends (own): its sessions, what is said, and its cause.
 use Rattle.std.specs.Prelude.{◌≡◌, ◌⊎◌, ◌≤◌, ℕ, Bool, true, List, Result, Ok, Err, IsSome, length}
 use Rattle.at_words.specs.declared.fault.WordsFault.{WordsFault}
-use Rattle.cause_output.specs.Saying.{IsSaid}
-use Rattle.cause_output.specs.Causes.{words_cause}
-use Rattle.cause_output.specs.Outside.{OutsideAt, WorkAt, no_inputs, no_sink, outside_at, work_at}
-use Rattle.cause_output.specs.Sinks.{SinkAt}
+use Rattle.tool_output.specs.SaidLines.{IsSaid}
+use Rattle.tool_output.specs.Causes.{words_cause}
+use Rattle.tool_output.specs.Outside.{OutsideAt, WorkAt, no_inputs, no_sink, outside_at, work_at}
+use Rattle.tool_output.specs.Sinks.{SinkAt}
 use Rattle.daemon_turn.specs.Kids.{KeepsChildren}
 use Rattle.host_calls.specs.Causes.{Rose}
 use Rattle.host_calls.specs.declared.host.Host as host
@@ -14,11 +14,11 @@ use Rattle.host_calls.specs.Session.{IsOutside, KeepsCounts}
 use Rattle.listing_text.specs.declared.cause.Cause.{Cause}
 use Rattle.listing_text.specs.declared.cause.Cause.TheVariants as cause
 use Rattle.mail_session.specs.PostState.{PostState, new_post}
-use Rattle.mail_session.specs.Leaving.{PostSpool}
+use Rattle.mail_session.specs.SessionOutcome.{PostSpool}
 use Rattle.at_mail.specs.declared.outcome.MailOutcome.{MailOutcome}
 use Rattle.at_mail.specs.declared.outcome.MailOutcome.TheVariants.{OfSession, Own}
 use Rattle.at_mail.specs.declared.request.PostRequest.{PostRequest}
-use Rattle.at_mail.specs.Making.{MakesMailSessions}
+use Rattle.at_mail.specs.SessionsWithRests.{MakesMailSessions}
 use Rattle.at_mail.specs.Outcomes.{PostItem, last_session_outcome, outcome_or_done, mail_program}
 
 -- all that the program is handed: no inputs, and nothing to print on
@@ -42,7 +42,7 @@ pub record HasMadeNoSession (of : Cause) (old new : OutsideAt) (final : Cause) :
   pub readers : new.readers ≡ old.readers
   pub says : IsSaid mail_program old.tells.errors of old.holds.errors new.holds.errors final
 
--- The sessions, on one post, lead to the end: all that were asked for, or fewer where one ended the program. What it comes to
+-- The sessions, on one post, lead to the end: all that were requested, or fewer where one ended the program. Its result
 -- is that of the last session, or that all was done.
 pub record PostsSessions (turns : ℕ) (begun : PostState) (old new : OutsideAt) (final : Cause) : Type 0 where
   pub items : List PostItem
@@ -56,9 +56,9 @@ pub record PostsSessions (turns : ℕ) (begun : PostState) (old new : OutsideAt)
   pub readers : new.readers ≡ last.clock.readers
   pub says : SaysMailOutcome old.tells.errors (outcome_or_done (last_session_outcome items)) last.said new.holds.errors final
 
--- How the program ends, by what its words ask for. No session is on, no child is forgotten and no count has fallen; what the
--- readings and the sink were made as stays; a fault of the output comes only where its count rose. Words that ask for nothing
--- are said to be wrong. Want of memory may come before the first session, and leaves all as it was.
+-- How the program ends, by what its words request. No session is on, no child is forgotten and no count has fallen; what the
+-- readings and the sink were made as stays; a fault of the output comes only where its count rose. Words that request nothing
+-- are said to be wrong. An out-of-memory error may come before the first session, and leaves all as it was.
 pub record PostEnds (asked : Result PostRequest WordsFault) (old new : OutsideAt) (final : Cause) : Type 0 where
   pub outside : IsOutside new.session
   pub kept : KeepsChildren old.session.children new.session.children

@@ -20,10 +20,10 @@ sessions_asked (Some program) (Some turns) =
     if may_be_program program then Ok (record { program = program; turns = turns }) else Err Usage
 sessions_asked _ _ = Err Usage
 
--- what the matches of the words ask for
+-- what the matches of the words request
 abbrev pub matches_asked : List Row → Result PostRequest WordsFault
 matches_asked rows = sessions_asked (first_of (codes "send") rows) (turns_asked (first_of (codes "turns") rows))
 
--- what the words ask for, the first of which stands for the program's name; without it they ask for nothing
+-- what the words request, the first of which stands for the program's name; without it they request nothing
 abbrev pub post_asked : List Text → Result PostRequest WordsFault
 post_asked words = named_asked post_app matches_asked words

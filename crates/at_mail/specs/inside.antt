@@ -1,1 +1,2 @@
-pub mod Progressing
+pub mod OneSession
+pub mod TrimWrite

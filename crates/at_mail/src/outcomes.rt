@@ -1,15 +1,15 @@
 //! The line of a session's end, and what the program comes to by it.
 ghost use Rattle.std.specs.Prelude.{◌≡◌, ◌≤◌, Some};
-ghost use Rattle.cause_output.specs.Sinks.{sink_at};
+ghost use Rattle.tool_output.specs.Sinks.{sink_at};
 ghost use Rattle.at_mail.specs.Outcomes.{SaysMailEnd, session_outcome, outcome_cut, outcome_said, outcome_unsaid};
 ghost use Rattle.at_mail.specs.Program.{SaysMailOutcome};
 
 use crate::outcome::MailOutcome;
-use cause_output::{cause_of_end, say_cause};
 use daemon_turn::TurnEnd;
 use host_calls::{Sink, SinkFault};
 use listing_text::{Cause, cause_line};
 use std::alloc::Global;
+use tool_output::{cause_of_end, say_cause};
 
 // The name under which the program says its causes.
 pub(crate) const MAIL_PROGRAM: &str = "atpost";
@@ -65,7 +65,7 @@ fn outcome_cut(end: &TurnEnd) -> MailOutcome
     }
 }
 
-// It found no memory: that of want of memory may be wanting.
+// It ran out of memory: that of an out-of-memory error may be missing.
 fn outcome_unsaid(end: &TurnEnd) -> Option<MailOutcome>
     ensures { result ≡ outcome_unsaid end.now }
 {

@@ -1,4 +1,4 @@
-//! The program: what its words ask for, done.
+//! The program: what its words request, done.
 ghost use Rattle.std.specs.Prelude.{◌≡◌, IsTrue, Ok, map, string_bytes};
 ghost use Rattle.host_calls.specs.Session.{IsOutside};
 ghost use Rattle.listing_text.specs.Cause.{status_of};
@@ -10,14 +10,14 @@ use crate::outcomes::{MAIL_PROGRAM, say_mail_outcome};
 use crate::request::PostRequest;
 use crate::sessions::make_mail_sessions;
 use crate::words::mail_request;
-use cause_output::{cause_of_words, say_cause};
 use host_calls::{Host, Readings, Sink};
 use listing_text::{Cause, Status};
 use mail_session::Post;
 use std::alloc::Global;
+use tool_output::{cause_of_words, say_cause};
 
 /// Makes sessions of mail, with a rest of twenty seconds between two: the ends of jobs are noted in the spool, and their
-/// notices handed over. A session that is not done is said on `err`; one that finds a damage is the last.
+/// notices sent. A session that is not done is said on `err`; one that finds a damage is the last.
 pub fn post_program<H: Host, R: Readings, E: Sink>(
     alloc: Global,
     words: &[String],
@@ -35,7 +35,7 @@ pub fn post_program<H: Host, R: Readings, E: Sink>(
     Status::of(cause)
 }
 
-// Does what the words ask for. Answers the cause, which was said.
+// Does what the words request. Answers the cause, which was said.
 fn run_words<H: Host, R: Readings, E: Sink>(
     alloc: Global,
     words: &[String],
@@ -54,7 +54,7 @@ fn run_words<H: Host, R: Readings, E: Sink>(
     }
 }
 
-// Makes the sessions that are asked for, on one post. Answers the cause, which was said.
+// Makes the sessions that are requested, on one post. Answers the cause, which was said.
 fn post_sessions<H: Host, R: Readings, E: Sink>(
     alloc: Global,
     request: &PostRequest,

@@ -1,4 +1,4 @@
-//! What the program is asked for.
+//! What the program is asked to do.
 use host_calls::Text;
 
 /// The mail program, and the number of sessions.

@@ -1,11 +1,11 @@
 //! Sessions, one after another.
 ghost use Rattle.std.specs.Prelude.{◌≡◌, ◌≤◌};
-ghost use Rattle.cause_output.specs.Outside.{RestsOn, clock_at};
-ghost use Rattle.cause_output.specs.Sinks.{sink_at};
+ghost use Rattle.tool_output.specs.Outside.{RestsOn, clock_at};
+ghost use Rattle.tool_output.specs.Sinks.{sink_at};
 ghost use Rattle.daemon_turn.specs.Kids.{AreChildren};
 ghost use Rattle.host_calls.specs.Session.{IsOutside};
 ghost use Rattle.at_mail.specs.Program.{mail_outside, work_with};
-ghost use Rattle.at_mail.specs.inside.Progressing.{HasMade, MakesOne, rest_before};
+ghost use Rattle.at_mail.specs.inside.OneSession.{HasMade, MakesOne, rest_before};
 
 use crate::outcome::MailOutcome;
 use crate::outcomes::{say_mail_end, session_outcome};
@@ -17,7 +17,7 @@ use std::alloc::Global;
 // The seconds between two sessions.
 const REST: u32 = 20;
 
-// Makes sessions until one ends the program or all are made. Answers what it comes to.
+// Makes sessions until one ends the program or all are made. Answers its result.
 pub(crate) fn make_mail_sessions<H: Host, R: Readings, E: Sink>(
     alloc: Global,
     post: &mut Post,

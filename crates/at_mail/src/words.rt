@@ -15,7 +15,7 @@ use clap::{ArgMatches, Command};
 use host_calls::Text;
 use std::alloc::{AllocError, Global};
 
-// What the words ask for, the first of which stands for the program's name.
+// What the words request, the first of which stands for the program's name.
 pub(crate) fn mail_request(alloc: Global, words: &[String]) -> Result<PostRequest, WordsFault>
     ensures asked { Answers (post_asked (map string_bytes words.now)) result }
     ensures program { IfOk result (λ request. IsTrue (may_be_program request.program)) }
@@ -42,7 +42,7 @@ fn with_send<'a>(alloc: Global) -> Result<Command<'a>, AllocError>
     with_long(alloc, bare_command(alloc, "atpost"), "send")
 }
 
-// What the matches ask for.
+// What the matches request.
 fn request_of_matches(alloc: Global, matches: &ArgMatches) -> Result<PostRequest, WordsFault>
     ensures asked { Answers (matches_asked (rows_of (found_of matches.now))) result }
     ensures program { IfOk result (λ request. IsTrue (may_be_program request.program)) }

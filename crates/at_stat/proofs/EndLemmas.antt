@@ -4,11 +4,11 @@ use Rattle.std.specs.Prelude.{Option, Some, None, Result, Ok, Err}
 use Rattle.at_words.specs.Answers.{Answers}
 use Rattle.at_words.specs.declared.fault.WordsFault.{WordsFault}
 use Rattle.at_words.specs.declared.fault.WordsFault.TheVariants as words
-use Rattle.cause_output.specs.Causes.{words_cause}
-use Rattle.cause_output.specs.declared.caller.Caller.{Caller}
-use Rattle.cause_output.specs.declared.command_error.CommandError.{CommandError}
-use Rattle.cause_output.specs.Outside.{OutsideAt}
-use Rattle.cause_output.specs.Sinks.{IsSilent, SinkAt}
+use Rattle.tool_output.specs.Causes.{words_cause}
+use Rattle.tool_output.specs.declared.caller.Caller.{Caller}
+use Rattle.tool_output.specs.declared.command_error.CommandError.{CommandError}
+use Rattle.tool_output.specs.Outside.{OutsideAt}
+use Rattle.tool_output.specs.Sinks.{IsSilent, SinkAt}
 use Rattle.civil_minute.specs.Zone.{is_unreadable}
 use Rattle.host_calls.specs.Causes.{Rose}
 use Rattle.host_calls.specs.Session.{IsOutside}
@@ -20,11 +20,11 @@ use Rattle.listing_text.specs.declared.refusal.Refusal.TheVariants.{BadUser, Bad
 use Rattle.spool_model.specs.Users.{IsUserName}
 use Rattle.at_stat.specs.Checks.{early_check}
 use Rattle.at_stat.specs.declared.request.StatRequest.{StatRequest}
-use Rattle.at_stat.specs.declared.status.StatStatus.{StatStatus}
-use Rattle.at_stat.specs.declared.wait.Sight.{Sight}
-use Rattle.at_stat.specs.Stating.{StatEnds, EndsBy, EndsChecked, HasCode, HasStatEnded, HasRisenStating, IsStatIdle, IsStatStopped, IsText, IsStatUnasked, SeesLast, stopped_status, wait_of, wait_tells}
-use Rattle.at_stat.specs.Waiting.{HasStopped}
-use Rattle.at_stat.specs.inside.Putting.{IsWithoutText, PutsStatesBy, PutsStateLines}
+use Rattle.at_stat.specs.declared.status.StatExit.{StatExit}
+use Rattle.at_stat.specs.declared.wait.StatResult.{StatResult}
+use Rattle.at_stat.specs.StatOutcome.{StatEnds, EndsBy, EndsChecked, HasCode, HasStatEnded, HasRisenStating, IsStatIdle, IsStatStopped, IsText, IsStatUnasked, SeesLast, stopped_status, wait_of, wait_tells}
+use Rattle.at_stat.specs.WaitSessions.{HasStopped}
+use Rattle.at_stat.specs.inside.StateLines.{IsWithoutText, PutsStatesBy, PutsStateLines}
 use Rattle.at_stat.proofs.FrameLemmas.{Frame, no_frame, seen_frame, stopped_stop}
 use Rattle.at_stat.proofs.LateLemmas.{IsOfSpool, stopped_of_spool}
 use Rattle.at_stat.proofs.UserLemmas.{user_fails, user_passes, zone_fails, zone_passes}
@@ -46,8 +46,8 @@ not_both : (request : StatRequest) (fault : WordsFault) → ◌≡◌ {A = Resul
 not_both request fault same = let no : ◌≡◌ {A = Result StatRequest WordsFault} (Ok request) (Err fault) = same in cc
 
 module _ (request : StatRequest) (caller : Caller) (old new : OutsideAt) where
-  -- what was asked for was done or stopped
-  ended_by : (status : StatStatus) → Frame (wait_tells old) (wait_of old) (wait_of new) → new.out.made_as ≡ old.out.made_as → HasRisenStating old new status.cause → HasCode status
+  -- what was requested was done or stopped
+  ended_by : (status : StatExit) → Frame (wait_tells old) (wait_of old) (wait_of new) → new.out.made_as ≡ old.out.made_as → HasRisenStating old new status.cause → HasCode status
       → StatEnds request caller old new status → HasStatEnded (Ok request) caller old new status
   ended_by status frame made_as risen code ends = record {
     left = frame.left;
@@ -64,7 +64,7 @@ module _ (request : StatRequest) (caller : Caller) (old new : OutsideAt) where
   passes : IsUserName caller.context.user → is_unreadable caller.zone ≡ false → early_check caller ≡ None
   passes named readable = rw (user_passes caller.context named, zone_passes caller.zone readable) refl
 
-  checked : (status : StatStatus) → early_check caller ≡ None → EndsBy request caller old new status.code status.cause → StatEnds request caller old new status
+  checked : (status : StatExit) → early_check caller ≡ None → EndsBy request caller old new status.code status.cause → StatEnds request caller old new status
   checked status none ends = inl (subst (λ (check : Option Refusal). EndsChecked check request caller old new status) (sym none) ends)
 
   -- the sessions were stopped
@@ -98,11 +98,11 @@ module _ (request : StatRequest) (caller : Caller) (old new : OutsideAt) where
       (checked (stopped_status stopped.cause) (passes named readable)
       (stops_by stopped.cause (stopped_status stopped.cause).code of (record {
         stopped = is;
-        silent = λ known. subst (IsSilent old.holds.output) (sym printed) (same_silent old.holds.output);
+        unchecked = λ known. subst (IsSilent old.holds.output) (sym printed) (same_silent old.holds.output);
       })))
 
   -- the lines were put, or not
-  module _ (sight : Sight) (sees : SeesLast request caller (wait_tells old) (wait_of old) (wait_of new) sight.store sight.finished) where
+  module _ (sight : StatResult) (sees : SeesLast request caller (wait_tells old) (wait_of old) (wait_of new) sight.store sight.finished) where
     puts_by : (text : List ℕ) (code : ℕ) (cause : Option Cause) → IsText request caller.context.user caller.zone sight.store.table text
         → PutsStatesBy request sight text old.tells.output old.holds.output new.holds.output code cause → EndsBy request caller old new code cause
     puts_by text code None is put = record {
@@ -122,7 +122,7 @@ module _ (request : StatRequest) (caller : Caller) (old new : OutsideAt) where
       code_is = λ same. absurd (let no : false ≡ true = same in cc);
     }
     puts_by text code (Some OutputFault) is put = record { kept = sight.store; finished = sight.finished; text = text; sees = sees; is = is; cut = put }
-    puts_by text code (Some Memory) is put = inl (record { kept = sight.store; finished = sight.finished; sees = sees; silent = put })
+    puts_by text code (Some Memory) is put = inl (record { kept = sight.store; finished = sight.finished; sees = sees; unchecked = put })
     puts_by text code (Some _) is put = absurd put
 
     -- no fault of the spool comes of it
@@ -133,7 +133,7 @@ module _ (request : StatRequest) (caller : Caller) (old new : OutsideAt) where
       λ same. subst (PutsStatesBy request sight text old.tells.output old.holds.output new.holds.output code) same put,
     )
 
-    pub ended_shown : IsUserName caller.context.user → is_unreadable caller.zone ≡ false → (status : StatStatus) → new.out.made_as ≡ old.out.made_as
+    pub ended_shown : IsUserName caller.context.user → is_unreadable caller.zone ≡ false → (status : StatExit) → new.out.made_as ≡ old.out.made_as
         → (status.cause ≡ Some OutputFault → Rose old.out.sink_faults new.out.sink_faults) → HasCode status
         → PutsStateLines request caller.context.user caller.zone sight old.tells.output old.holds.output new.holds.output status
         → HasStatEnded (Ok request) caller old new status
@@ -143,11 +143,11 @@ module _ (request : StatRequest) (caller : Caller) (old new : OutsideAt) where
         (record { file_fault = λ same. absurd (none.0 same); busy = λ same. absurd (none.1 same); output_fault = rose })
         code (checked status (passes named readable) (puts_by lines.0 status.code status.cause lines.1 lines.2))
 
-    pub ended_without : IsUserName caller.context.user → is_unreadable caller.zone ≡ false → (status : StatStatus) → new.out.made_as ≡ old.out.made_as
+    pub ended_without : IsUserName caller.context.user → is_unreadable caller.zone ≡ false → (status : StatExit) → new.out.made_as ≡ old.out.made_as
         → (status.cause ≡ Some OutputFault → Rose old.out.sink_faults new.out.sink_faults) → HasCode status
         → IsWithoutText old.tells.output old.holds.output new.holds.output status → HasStatEnded (Ok request) caller old new status
     ended_without named readable status made_as rose code without =
-        let cause_is : status.cause ≡ Some Memory = ap (λ (one : StatStatus). one.cause) without.status_is in
+        let cause_is : status.cause ≡ Some Memory = ap (λ (one : StatExit). one.cause) without.status_is in
         ended_by status (seen_frame (wait_tells old) caller.context.user request.which request.wait (wait_of old) (wait_of new) sight.store sight.finished sees) made_as
         (record {
           file_fault = λ same. absurd (let no : ◌≡◌ {A = Option Cause} (Some Memory) (Some FileFault) = sym cause_is ∙ same in cc);
@@ -155,12 +155,12 @@ module _ (request : StatRequest) (caller : Caller) (old new : OutsideAt) where
           output_fault = rose;
         })
         code (checked status (passes named readable)
-        (subst (EndsBy request caller old new status.code) (sym cause_is) (inl (record { kept = sight.store; finished = sight.finished; sees = sees; silent = without.silent }))))
+        (subst (EndsBy request caller old new status.code) (sym cause_is) (inl (record { kept = sight.store; finished = sight.finished; sees = sees; unchecked = without.unchecked }))))
 
 -- nothing was done
 module _ (asked : Result StatRequest WordsFault) (caller : Caller) (at : OutsideAt) (outside : IsOutside at.session) where
   idle : (cause : Cause) → IsStatIdle cause at at (stopped_status cause)
-  idle cause = record { status_is = refl; wait = refl; silent = λ known. same_silent at.holds.output }
+  idle cause = record { status_is = refl; wait = refl; unchecked = λ known. same_silent at.holds.output }
 
   -- no such cause
   abbrev IsEarly : Cause → Type 0
@@ -216,13 +216,13 @@ module _ (asked : Result StatRequest WordsFault) (caller : Caller) (at : Outside
       (λ other was. inl (subst (λ (one : WordsFault). IsStatIdle (words_cause one) at at (stopped_status (words_cause fault))) (same_fault fault other is was) (idle (words_cause fault))))
       (λ request was. absurd (no_request fault request is was))
 
-  -- the words ask for nothing, or were not read
+  -- the words request nothing, or were not read
   pub ended_unasked : (fault : WordsFault) → Answers asked (Err fault) → HasStatEnded asked caller at at (stopped_status (words_cause fault))
   ended_unasked words.Usage is = refused words.Usage is tt
   ended_unasked words.BadQueue is = refused words.BadQueue is tt
   ended_unasked words.Memory is = ended_idle Memory tt (λ fault was. inr (idle Memory)) (λ request was. inr (idle Memory))
 
--- the user's name can't stand in a job
+-- the user's name can't are in a job
 pub unnamed_check : (caller : Caller) → (IsUserName caller.context.user → ⊥) → early_check caller ≡ Some BadUser
 unnamed_check caller none = rw (user_fails caller.context none) refl
 

@@ -1,19 +1,19 @@
--- What the sessions leave alone: no session is on, no child was started, nothing was handed over, and no load was read.
+-- What the sessions leave alone: no session is on, no child was started, nothing was started, and no load was read.
 use Rattle.std.proofs.Common.{◌≡◌, ◌≤◌, ◌∙◌, ℕ, Bool, true, List, ap, arith, inl, inr, refl, subst, sym}
 use Rattle.std.specs.Prelude.{Option, Some, None, Result, Ok, Err}
 use Rattle.at_words.specs.declared.filter.Filter.{Filter}
-use Rattle.cause_output.specs.declared.command_error.CommandError.{CommandError}
-use Rattle.cause_output.specs.Outside.{ClockAt, Telling}
+use Rattle.tool_output.specs.declared.command_error.CommandError.{CommandError}
+use Rattle.tool_output.specs.Outside.{ClockAt, Telling}
 use Rattle.host_calls.specs.Causes.{Rose}
 use Rattle.host_calls.specs.Session.{IsLeft, IsOutside, Session}
 use Rattle.host_calls.specs.World.{TimePasses}
 use Rattle.host_calls.proofs.WorldLemmas.{goes_on_none, goes_on_then}
-use Rattle.host_session.proofs.SessionLemmas.{counts_on, no_counts}
+use Rattle.host_calls.proofs.SessionLemmas.{counts_on, no_counts}
 use Rattle.listing_text.specs.declared.cause.Cause.{Cause}
 use Rattle.listing_text.specs.declared.cause.Cause.TheVariants.{Busy, FileFault, Memory}
 use Rattle.step_runs.specs.Current.{Kept}
-use Rattle.at_stat.specs.Looking.{SpoolAt}
-use Rattle.at_stat.specs.Waiting.{ComesAfter, HasSeen, HasStopped, LooksAt, RestsBetween, StopsStatAfter, StopsWaiting, WaitAt, Waits, at_first, at_later, no_more, once_more}
+use Rattle.at_stat.specs.OneLook.{SpoolAt}
+use Rattle.at_stat.specs.WaitSessions.{ComesAfter, HasSeen, HasStopped, LooksAt, RestsBetween, StopsStatAfter, StopsWaiting, WaitAt, Waits, at_first, at_later, no_more, once_more}
 
 -- what is left alone from one moment to another
 pub record Frame (tells : Telling) (old new : WaitAt) : Type 0 where

@@ -3,9 +3,9 @@ use Rattle.std.proofs.Common.{◌≡◌, Bool, true, false, ℕ, List, [], ◌�
 use Rattle.std.specs.Prelude.{◌&&◌, Option, Some, None, Err, map, nat_le}
 use Rattle.at_words.specs.declared.filter.Filter.{Filter}
 use Rattle.at_words.specs.declared.filter.Filter.TheVariants as filter
-use Rattle.cause_output.specs.Causes.{cause_in, cause_of_entry}
-use Rattle.cause_output.specs.declared.command_error.CommandError.{CommandError}
-use Rattle.cause_output.specs.Outside.{Telling}
+use Rattle.tool_output.specs.Causes.{cause_in, cause_of_entry}
+use Rattle.tool_output.specs.declared.command_error.CommandError.{CommandError}
+use Rattle.tool_output.specs.Outside.{Telling}
 use Rattle.command_rules.specs.Checks.{check_of, is_earlier_check, of_lock}
 use Rattle.command_rules.specs.Sessions.{IsNotOpened, faults, is_damaged, lacks_memory, lists_fault, lists_lack_memory, refuses}
 use Rattle.command_rules.specs.Verdict.{first_refusal, live_row}
@@ -22,8 +22,8 @@ use Rattle.spool_model.specs.JobTable.{JobTable}
 use Rattle.spool_session.specs.Sessions.{IsOfSession}
 use Rattle.step_runs.specs.Current.{Kept}
 use Rattle.at_stat.specs.Checks.{named_check, numbers_check, owner_check, which_check}
-use Rattle.at_stat.specs.Looking.{LooksInside}
-use Rattle.at_stat.specs.Waiting.{HasStopped, LooksAt, StopsStatAfter, WaitAt, at_first, at_later}
+use Rattle.at_stat.specs.OneLook.{LooksInside}
+use Rattle.at_stat.specs.WaitSessions.{HasStopped, LooksAt, StopsStatAfter, WaitAt, at_first, at_later}
 
 -- a refusal within a session
 abbrev IsLate : Option Refusal → Type 0
@@ -60,7 +60,7 @@ which_late user table (filter.Numbers named) = numbers_late user table named
 pub denied_comes : (user : List ℕ) (table : JobTable) (which : Filter) (refusal : Refusal) → Some refusal ≡ which_check user table which → IsOfSession (Refused refusal)
 denied_comes user table which refusal is = subst IsLate (sym is) (which_late user table which)
 
--- a fault of the folder or of memory, a damage, a lock that was taken, or a refusal
+-- a fault of the directory or of memory, a damage, a lock that was taken, or a refusal
 abbrev pub IsOfSpool : Cause → Type 0
 IsOfSpool FileFault = Unit {0}
 IsOfSpool Memory = Unit {0}

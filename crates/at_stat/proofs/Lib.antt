@@ -5,3 +5,6 @@ mod LateLemmas
 mod LookLemmas
 mod SightLemmas
 mod UserLemmas
+pub mod LineLemmas
+pub mod PlainLemmas
+pub mod StageLemmas

@@ -3,13 +3,13 @@ use Rattle.std.proofs.Common.{List, ℕ, inl, inr}
 use Rattle.std.specs.Prelude.{Result}
 use Rattle.std.specs.Fn.{CalledAtMut}
 use Rattle.at_words.specs.declared.filter.Filter.{Filter}
-use Rattle.cause_output.specs.Causes.{cause_in}
-use Rattle.cause_output.specs.declared.command_error.CommandError.{CommandError}
+use Rattle.tool_output.specs.Causes.{cause_in}
+use Rattle.tool_output.specs.declared.command_error.CommandError.{CommandError}
 use Rattle.host_calls.specs.declared.host.Host.{Ghosts}
-use Rattle.host_session.specs.Work.{Calls}
+use Rattle.host_calls.specs.SessionWork.{Calls}
 use Rattle.spool_session.specs.Sessions.{EndsCommandSession, HasRisenIn, StaysQuiet}
 use Rattle.step_runs.specs.Current.{Kept}
-use Rattle.at_stat.specs.Looking.{LooksAtJobs, LooksInside, stat_spool_at}
+use Rattle.at_stat.specs.OneLook.{LooksAtJobs, LooksInside, stat_spool_at}
 
 module _ {H F : Type 0} (g : Ghosts H) (calls : Calls H F (Result Kept CommandError)) (work left : F) (old new : H) (result : Result Kept CommandError)
     (user : List ℕ) (which : Filter) where

@@ -52,7 +52,7 @@ user_passes context is = rw (name_passes context.user is) refl
 pub user_fails : (context : Context) → (IsUserName context.user → ⊥) → user_check context ≡ Some BadUser
 user_fails context none = rw (name_fails context.user (is_user_name context.user) refl none) refl
 
--- where it passed, the user's name can stand in a job
+-- where it passed, the user's name can be in a job
 pub user_passed : (context : Context) → user_check context ≡ None → IsUserName context.user
 user_passed context is = by_test (is_user_name context.user) refl is where
   by_test : (test : Bool) → is_user_name context.user ≡ test → cond test None (Some BadUser) ≡ None → IsUserName context.user

@@ -3,13 +3,13 @@ use Rattle.std.specs.Prelude.{◌&&◌, ◌+◌, [], ◌∷◌, ℕ, Bool, List,
 use Rattle.std.specs.List.{list_any}
 use Rattle.at_words.specs.declared.filter.Filter.{Filter}
 use Rattle.at_words.specs.declared.filter.Filter.TheVariants.{All, Queue, Numbers}
-use Rattle.cause_output.specs.declared.caller.Caller.{Caller}
+use Rattle.tool_output.specs.declared.caller.Caller.{Caller}
 use Rattle.command_rules.specs.Verdict.{first_refusal, live_row, row_check, user_check, zone_check}
 use Rattle.host_calls.specs.declared.child.Ending.TheVariants.{Exit, Signal, NotStarted}
-use Rattle.job_states.specs.declared.stage.JobStage.{JobStage}
-use Rattle.job_states.specs.declared.stage.JobStage.TheVariants as stage
-use Rattle.job_states.specs.Reports.{is_in_queue}
-use Rattle.job_states.specs.Stages.{stage_of_number}
+use Rattle.at_stat.specs.declared.stage.JobStage.{JobStage}
+use Rattle.at_stat.specs.declared.stage.JobStage.TheVariants as stage
+use Rattle.at_stat.specs.Reports.{is_in_queue}
+use Rattle.at_stat.specs.Stages.{stage_of_number}
 use Rattle.listing_text.specs.declared.refusal.Refusal.{Refusal}
 use Rattle.listing_text.specs.declared.refusal.Refusal.TheVariants.{NoSuchJob}
 use Rattle.listing_text.specs.Listing.{may_see}

@@ -1,6 +1,11 @@
 pub mod Checks
-pub mod Looking
-pub mod Stating
-pub mod Waiting
+pub mod Laws
+pub mod Lines
+pub mod Objects
+pub mod OneLook
+pub mod Reports
+pub mod Stages
+pub mod StatOutcome
+pub mod WaitSessions
 pub mod Words
 pub mod inside

@@ -12,8 +12,8 @@ use Rattle.at_words.specs.declared.fault.WordsFault.{WordsFault}
 use Rattle.at_words.specs.declared.fault.WordsFault.TheVariants.{Usage}
 use Rattle.at_words.specs.declared.filter.Filter.{Filter}
 use Rattle.at_words.specs.declared.filter.Filter.TheVariants.{All, Queue, Numbers}
-use Rattle.job_states.specs.declared.form.Form as form
-use Rattle.job_states.specs.declared.form.Form.TheVariants.{Text as Lines, Json}
+use Rattle.at_stat.specs.declared.form.Form as form
+use Rattle.at_stat.specs.declared.form.Form.TheVariants.{Text as Lines, Json}
 use Rattle.spool_model.specs.declared.number.TheConstants.{LAST_NUMBER}
 use Rattle.at_stat.specs.declared.request.StatRequest.{StatRequest}
 
@@ -38,7 +38,7 @@ abbrev pub numbers_asked : List Text → Result Filter WordsFault
 numbers_asked [] = Ok All
 numbers_asked (operand ∷ others) = on_ok Numbers (or_usage (numbers_between 0 LAST_NUMBER (operand ∷ others)))
 
--- which jobs are asked for: those of a queue or those of numbers, and not both
+-- which jobs are requested: those of a queue or those of numbers, and not both
 abbrev pub which_asked : Option Text → List Text → Result Filter WordsFault
 which_asked (Some text) [] = queue_filter text
 which_asked (Some text) (operand ∷ others) = Err Usage
@@ -61,7 +61,7 @@ request_asked (Err fault) which form = Err fault
 request_asked (Ok wait) (Err fault) form = Err fault
 request_asked (Ok wait) (Ok which) form = Ok (record { wait = wait; form = form; which = which })
 
--- what the matches of the words ask for
+-- what the matches of the words request
 abbrev pub stat_matches_asked : List Row → Result StatRequest WordsFault
 stat_matches_asked rows =
     request_asked
@@ -69,6 +69,6 @@ stat_matches_asked rows =
     (which_asked (first_of (codes "queue") rows) (operands_of rows))
     (form_asked (is_set (codes "json") rows))
 
--- what the words ask for, the first of which stands for the program's name; without it they ask for nothing
+-- what the words request, the first of which stands for the program's name; without it they request nothing
 abbrev pub stat_asked : List Text → Result StatRequest WordsFault
 stat_asked words = named_asked stat_app stat_matches_asked words

@@ -1,2 +1,4 @@
-pub mod Putting
-pub mod Sighting
+pub mod StageLines
+pub mod StageSearch
+pub mod StateLines
+pub mod WaitResults

@@ -1,13 +1,13 @@
 //! The jobs whose ends are waited for.
 ghost use Rattle.std.specs.Prelude.{◌≡◌, ◌&&◌, IfOk, filter, is_some};
-ghost use Rattle.job_states.specs.Reports.{is_in_queue};
+ghost use Rattle.at_stat.specs.Reports.{is_in_queue};
 ghost use Rattle.listing_text.specs.Listing.{may_see};
 ghost use Rattle.queue_rules.specs.Order.{row_numbers};
 ghost use Rattle.command_rules.specs.Verdict.{live_row};
 ghost use Rattle.at_stat.specs.Checks.{awaited_numbers, has_live, seen_numbers};
 
+use crate::is_in_queue;
 use at_words::Filter;
-use job_states::is_in_queue;
 use spool_model::{Row, UserName};
 use spool_session::is_seen_by;
 use spool_store::Store;

@@ -3,9 +3,9 @@ ghost use Rattle.std.specs.Prelude.{◌≡◌};
 ghost use Rattle.command_rules.specs.Verdict.{live_row};
 ghost use Rattle.at_stat.specs.Checks.{code_of_fate, code_of_named, code_of_stage, done_code, named_check, numbers_check, owner_check, which_check};
 
+use crate::{JobStage, stage_of};
 use at_words::Filter;
 use host_calls::Ending;
-use job_states::{JobStage, stage_of};
 use listing_text::Refusal;
 use spool_model::{Fate, UserName};
 use spool_session::refusal_of_row;
@@ -29,7 +29,7 @@ const FORGOTTEN: u8 = 122;
 // The exit status of a job that a signal ended is so much more than the signal.
 const SIGNALS: u8 = 128;
 
-// The first refusal of the jobs that are asked for by their numbers.
+// The first refusal of the jobs that are requested by their numbers.
 pub(crate) fn stat_refusal(store: &Store, user: &UserName, which: &Filter) -> Option<Refusal>
     ensures { result ≡ which_check user.now store.now.table which.now }
 {

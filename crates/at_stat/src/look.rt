@@ -1,20 +1,20 @@
 //! One session, which looks at the spool.
 ghost use Rattle.std.specs.Prelude.{IfErr, IsTrue};
-ghost use Rattle.cause_output.specs.Causes.{error_of};
+ghost use Rattle.tool_output.specs.Causes.{error_of};
 ghost use Rattle.host_calls.specs.Session.{CallsInside, IsInside, IsOutside};
 ghost use Rattle.host_calls.specs.World.{TimePasses};
 ghost use Rattle.listing_text.specs.declared.cause.Cause.TheVariants as cause;
 ghost use Rattle.spool_session.specs.Sessions.{ComesOfSession};
-ghost use Rattle.at_stat.specs.Looking.{LooksAtJobs, LooksInside, stat_spool_at};
+ghost use Rattle.at_stat.specs.OneLook.{LooksAtJobs, LooksInside, stat_spool_at};
 
 use crate::checks::stat_refusal;
 use at_words::Filter;
-use cause_output::CommandError;
 use host_calls::Host;
 use spool_model::UserName;
 use spool_session::{in_command_session, open_store};
 use spool_store::Store;
 use std::alloc::Global;
+use tool_output::CommandError;
 
 // The store, recovered in a session of its own, where neither the lists nor the table refuse the user.
 pub(crate) fn look_at_jobs<H: Host>(

@@ -1,8 +1,8 @@
-//! What the words ask for.
+//! What the words request.
+use crate::Form;
 use at_words::Filter;
-use job_states::Form;
 
-/// What the words ask for.
+/// What the words request.
 #[derive(Drop)]
 pub(crate) struct StatRequest {
     /// The greatest number of sessions, where the ends of jobs are waited for.

@@ -1,35 +1,34 @@
 //! The lines of what the last session saw.
 ghost use Rattle.std.specs.Prelude.{◌≡◌, ◌⊎◌, IfOk, Some};
-ghost use Rattle.cause_output.specs.Sinks.{sink_at};
+ghost use Rattle.tool_output.specs.Sinks.{sink_at};
 ghost use Rattle.civil_minute.specs.Zone.{IsReadable};
 ghost use Rattle.host_calls.specs.Causes.{Rose};
 ghost use Rattle.host_calls.specs.Session.{IsOutside};
-ghost use Rattle.at_stat.specs.Stating.{HasCode, IsText};
-ghost use Rattle.at_stat.specs.inside.Putting.{IsWithoutText, PutsStatesBy, PutsStateLines, sight_status};
+ghost use Rattle.at_stat.specs.StatOutcome.{HasCode, IsText};
+ghost use Rattle.at_stat.specs.inside.StateLines.{IsWithoutText, PutsStatesBy, PutsStateLines, sight_status};
 
-use crate::StatStatus;
 use crate::checks::done_code;
 use crate::request::StatRequest;
-use crate::wait::Sight;
-use cause_output::put_whole;
+use crate::wait::StatResult;
+use crate::{StatExit, asked_numbers, report_of};
 use civil_minute::Zone;
 use host_calls::{Bytes, Host, Sink};
-use job_states::{asked_numbers, report_of};
 use listing_text::Cause;
 use spool_model::UserName;
 use spool_store::Store;
 use std::alloc::{AllocError, Global};
+use tool_output::put_whole;
 
-// Puts the lines of the jobs that are asked for. The session is over, so that a slow reader does not hold the lock.
+// Puts the lines of the jobs that are requested. The session is over, so that a slow reader does not hold the lock.
 pub(crate) fn show_states<H: Host, O: Sink>(
     alloc: Global,
     host: &H,
-    sight: &Sight,
+    sight: &StatResult,
     user: &UserName,
     request: &StatRequest,
     zone: &Zone,
     out: &mut O,
-) -> StatStatus
+) -> StatExit
     requires outside { IsOutside (H.session host.now) }
     requires zone { IsReadable zone.now }
     ensures made_as { (O.outlet out.new).made_as ≡ (O.outlet out.old).made_as }
@@ -43,11 +42,11 @@ pub(crate) fn show_states<H: Host, O: Sink>(
 {
     match states_text(alloc, &sight.store, user, request, zone) {
         Ok(text) => put_text(alloc, host, sight, request, text.as_slice(), out),
-        Err(_) => StatStatus::of(Cause::Memory),
+        Err(_) => StatExit::of(Cause::Memory),
     }
 }
 
-// The lines of the jobs that are asked for.
+// The lines of the jobs that are requested.
 fn states_text(
     alloc: Global,
     store: &Store,
@@ -66,11 +65,11 @@ fn states_text(
 fn put_text<H: Host, O: Sink>(
     alloc: Global,
     host: &H,
-    sight: &Sight,
+    sight: &StatResult,
     request: &StatRequest,
     text: &[u8],
     out: &mut O,
-) -> StatStatus
+) -> StatExit
     requires { IsOutside (H.session host.now) }
     ensures made_as { (O.outlet out.new).made_as ≡ (O.outlet out.old).made_as }
     ensures code { HasCode result }
@@ -81,20 +80,20 @@ fn put_text<H: Host, O: Sink>(
 {
     match put_whole(alloc, host, text, out) {
         Cause::Done => sight_status(sight, request),
-        cause => StatStatus::of(cause),
+        cause => StatExit::of(cause),
     }
 }
 
 // The status of what was seen: that of the wait, where each awaited job is done.
-fn sight_status(sight: &Sight, request: &StatRequest) -> StatStatus
+fn sight_status(sight: &StatResult, request: &StatRequest) -> StatExit
     ensures { result ≡ sight_status request.now sight.now sight.now.finished }
 {
     if sight.finished {
-        StatStatus {
+        StatExit {
             code: done_code(request.wait, &request.which, &sight.store),
             cause: None,
         }
     } else {
-        StatStatus::of(Cause::StillRunning)
+        StatExit::of(Cause::StillRunning)
     }
 }

@@ -1,37 +1,37 @@
 //! Sessions one after another, until no awaited job lives.
 ghost use Rattle.std.specs.Prelude.{◌≡◌, ◌≤◌, IfErr, IfSome};
 ghost use Rattle.host_calls.specs.Session.{IsOutside};
-ghost use Rattle.at_stat.specs.Waiting.{wait_at, wait_telling};
-ghost use Rattle.at_stat.specs.inside.Sighting.{Awaits, HasLooked, LooksAgain, Sees};
+ghost use Rattle.at_stat.specs.WaitSessions.{wait_at, wait_telling};
+ghost use Rattle.at_stat.specs.inside.WaitResults.{Awaits, HasLooked, LooksAgain, Sees};
 
 use crate::awaited::{awaited_numbers, has_live};
 use crate::look::look_at_jobs;
 use crate::request::StatRequest;
 use at_words::Filter;
-use cause_output::CommandError;
 use host_calls::{Host, Readings};
 use spool_model::UserName;
 use spool_store::Store;
 use std::alloc::Global;
+use tool_output::CommandError;
 
 // The seconds between two sessions.
 const REST: u32 = 1;
 
 // What the last session saw, and whether each awaited job was done by then.
 #[derive(Drop)]
-pub(crate) struct Sight {
+pub(crate) struct StatResult {
     pub(crate) store: Store,
     pub(crate) finished: bool,
 }
 
-// The sessions that are asked for: one, or as many as it takes until no awaited job lives.
-pub(crate) fn last_sight<H: Host, R: Readings>(
+// The sessions that are requested: one, or as many as it takes until no awaited job lives.
+pub(crate) fn final_result<H: Host, R: Readings>(
     alloc: Global,
     user: &UserName,
     request: &StatRequest,
     host: &mut H,
     readings: &mut R,
-) -> Result<Sight, CommandError>
+) -> Result<StatResult, CommandError>
     requires outside { IsOutside (H.session host.old) }
     requires turns { IfSome request.now.wait (λ turns. 1 ≤ turns) }
     ensures { Sees (wait_telling H.tells H.alone R.tells) user.now request.now.wait request.now.which
@@ -41,7 +41,7 @@ pub(crate) fn last_sight<H: Host, R: Readings>(
     let store = look_at_jobs(alloc, user, &request.which, host)?;
     match request.wait {
         Some(turns) => wait(alloc, user, &request.which, turns, store, host, readings),
-        None => Ok(Sight {
+        None => Ok(StatResult {
             store,
             finished: true,
         }),
@@ -57,7 +57,7 @@ fn wait<H: Host, R: Readings>(
     store: Store,
     host: &mut H,
     readings: &mut R,
-) -> Result<Sight, CommandError>
+) -> Result<StatResult, CommandError>
     requires outside { IsOutside (H.session host.old) }
     requires turns { 1 ≤ turns }
     ensures { Awaits (wait_telling H.tells H.alone R.tells) user.now turns which.now store
@@ -78,7 +78,7 @@ fn wait_for_ends<H: Host, R: Readings>(
     store: Store,
     host: &mut H,
     readings: &mut R,
-) -> Result<Sight, CommandError>
+) -> Result<StatResult, CommandError>
     requires outside { IsOutside (H.session host.old) }
     requires turns { 1 ≤ turns }
     ensures { HasLooked (wait_telling H.tells H.alone R.tells) user.now turns which.now awaited.now store
@@ -92,10 +92,10 @@ fn wait_for_ends<H: Host, R: Readings>(
         looks += 1;
     }
     let finished = !has_live(&store, awaited);
-    Ok(Sight { store, finished })
+    Ok(StatResult { store, finished })
 }
 
-// One session more, after a rest in which nothing is held.
+// One more session, after a rest in which nothing is held.
 fn look_again<H: Host, R: Readings>(
     alloc: Global,
     user: &UserName,

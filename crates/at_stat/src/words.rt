@@ -7,17 +7,17 @@ ghost use Rattle.at_words.specs.Answers.{Answers};
 ghost use Rattle.at_words.specs.Rows.{text_of};
 ghost use Rattle.at_stat.specs.Words.{form_asked, queue_filter, stat_app, stat_asked, stat_matches_asked, wait_asked, which_asked};
 
+use crate::Form;
 use crate::request::StatRequest;
 use at_words::{
     Filter, WordsFault, bare_command, has_flag, numbers_between, operands, parsed, queue_letter,
     turns_of, value, with_flag, with_long, with_long_flag, with_operands, with_value,
 };
 use clap::{ArgMatches, Command};
-use job_states::Form;
 use spool_model::LAST_NUMBER;
 use std::alloc::{AllocError, Global};
 
-// What the words ask for, the first of which stands for the program's name.
+// What the words request, the first of which stands for the program's name.
 pub(crate) fn stat_request(alloc: Global, words: &[String]) -> Result<StatRequest, WordsFault>
     ensures asked { Answers (stat_asked (map string_bytes words.now)) result }
     ensures turns { IfOk result (λ request. IfSome request.wait (λ turns. 1 ≤ turns)) }
@@ -40,13 +40,13 @@ fn stat_command<'a>(alloc: Global) -> Result<Command<'a>, AllocError>
     with_operands(alloc, json)
 }
 
-// What the matches ask for.
+// What the matches request.
 fn stat_request_of(alloc: Global, matches: &ArgMatches) -> Result<StatRequest, WordsFault>
     ensures asked { Answers (stat_matches_asked (rows_of (found_of matches.now))) result }
     ensures turns { IfOk result (λ request. IfSome request.wait (λ turns. 1 ≤ turns)) }
 {
     let wait = wait_of(has_flag(matches, "wait"), value(matches, "turns"))?;
-    let which = which_of(alloc, value(matches, "queue"), operands(matches))?;
+    let which = requested_jobs(alloc, value(matches, "queue"), operands(matches))?;
     Ok(StatRequest {
         wait,
         form: form_of(has_flag(matches, "json")),
@@ -79,7 +79,11 @@ fn form_of(json: bool) -> Form
 }
 
 // The jobs of a queue, or of these numbers, or all.
-fn which_of(alloc: Global, queue: Option<&str>, operands: &[&str]) -> Result<Filter, WordsFault>
+fn requested_jobs(
+    alloc: Global,
+    queue: Option<&str>,
+    operands: &[&str],
+) -> Result<Filter, WordsFault>
     ensures { Answers (which_asked (text_of queue.entry) (texts operands.entry.now)) result }
 {
     match queue {

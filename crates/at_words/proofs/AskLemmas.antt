@@ -1,4 +1,4 @@
--- What a tool's words ask for, by what the parse of them answers.
+-- What a tool's words request, by what the parse of them answers.
 use Rattle.std.proofs.Common.{◌≡◌, ◌∙◌, ◌==◌, [], ◌∷◌, true, false, List, Result, Ok, Err, IfOk, IsErrAnd, arith, length, map, sym, subst, refl}
 use Rattle.std.proofs.lemmas.Bool.{eqb-true}
 use Rattle.std.specs.declared.alloc.AllocError.{AllocError}
@@ -10,7 +10,7 @@ use Rattle.clap.specs.Walk.{Row, Rule, Text, rows_of}
 use Rattle.clap.specs.declared.builder.command.Command.{Command}
 use Rattle.clap.specs.declared.parser.matches.ArgMatches.{ArgMatches}
 use Rattle.at_words.specs.Answers.{Answers, asked_of, if_taken, named_asked}
-use Rattle.at_words.specs.Parsing.{Parses}
+use Rattle.at_words.specs.ParseResult.{Parses}
 use Rattle.at_words.specs.declared.fault.WordsFault.{WordsFault}
 use Rattle.at_words.specs.declared.fault.WordsFault.TheVariants.{Usage, BadQueue, Memory}
 
@@ -35,7 +35,7 @@ module _ {T : Type 0} where
   refused [] asked some = absurd (some refl)
   refused (kind ∷ kinds) asked some = refl
 
-  -- what is asked for is an answer
+  -- what is requested is an answer
   pub answers_same : (asked result : Result T WordsFault) → result ≡ asked → Answers asked result
   answers_same asked (Ok value) same = same
   answers_same asked (Err Usage) same = same
@@ -63,7 +63,7 @@ module _ {T : Type 0} where
     asks_fails fault (Ok value) parses handed = absurd handed
     asks_fails fault (Err other) parses handed = subst (λ (one : WordsFault). Answers (asked_of app asked words) (Err one)) (sym handed) (asks_refused fault parses)
 
-  -- what words with a first one ask for
+  -- what words with a first one request
   pub with_name : {W : Type 0} (app : App) (asked : List Row → Result T WordsFault) (text_of : W → Text) (words : List W) (result : Result T WordsFault) → (length words == 0) ≡ false
       → Answers (asked_of app asked (map text_of words)) result → Answers (named_asked app asked (map text_of words)) result
   with_name app asked text_of [] result none answers = let impossible : true ≡ false = none in cc

@@ -22,7 +22,7 @@ use Rattle.at_words.specs.declared.tool_request.ToolRequest.{ToolRequest}
 use Rattle.at_words.specs.declared.tool_request.ToolRequest.TheVariants.{List as Listing, Remove, Show, Make}
 use Rattle.at_words.specs.declared.when.When.{When}
 
--- whatever is asked for, the queue of a submission is a letter
+-- whatever is requested, the queue of a submission is a letter
 abbrev AsksByLetter : Result ToolRequest WordsFault → Type 0
 AsksByLetter asked = IfOk asked HasQueueLetter
 
@@ -43,7 +43,7 @@ showings : (asked : Result (List ℕ) WordsFault) → AsksByLetter (on_ok Show a
 showings (Ok numbers) = tt
 showings (Err fault) = tt
 
--- a queue that is asked for is a letter
+-- a queue that is requested is a letter
 abbrev IsLetter : Option ℕ → Type 0
 IsLetter None = Unit {0}
 IsLetter (Some queue) = is_ascii_alphabetic queue ≡ true

@@ -1,4 +1,4 @@
--- What a call answers that reads words: what they ask for, or that there was no memory for it.
+-- What a call answers that reads words: what they request, or that there was no memory for it.
 use Rattle.std.specs.Prelude.{◌≡◌, [], ◌∷◌, List, Option, Some, None, Result, Ok, Err}
 use Rattle.clap.specs.Faults.{fault_of}
 use Rattle.clap.specs.Kinds.{Kinds}
@@ -8,7 +8,7 @@ use Rattle.at_words.specs.declared.fault.WordsFault.{WordsFault}
 use Rattle.at_words.specs.declared.fault.WordsFault.TheVariants.{Usage, BadQueue, Memory}
 
 module _ {T : Type 0} where
-  -- the answer is what is asked for, or there was no memory for it
+  -- the answer is what is requested, or there was no memory for it
   abbrev pub Answers : Result T WordsFault → Result T WordsFault → Type 0
   Answers asked (Ok value) = Ok value ≡ asked
   Answers asked (Err Usage) = Err Usage ≡ asked
@@ -29,11 +29,11 @@ module _ {T : Type 0} where
   if_taken [] asked = asked
   if_taken (kind ∷ kinds) asked = Err Usage
 
-  -- what the words of a command ask for, over its matches
+  -- what the words of a command request, over its matches
   abbrev pub asked_of : App → (List Row → Result T WordsFault) → List Text → Result T WordsFault
   asked_of app asked words = if_taken (fault_of app words) (asked (matches_of app words))
 
-  -- the same, where the first word stands for the program's name; without it they ask for nothing
+  -- the same, where the first word stands for the program's name; without it they request nothing
   abbrev pub named_asked : App → (List Row → Result T WordsFault) → List Text → Result T WordsFault
   named_asked app asked [] = Err Usage
   named_asked app asked (name ∷ words) = asked_of app asked (name ∷ words)

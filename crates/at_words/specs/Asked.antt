@@ -1,4 +1,4 @@
--- What the words of `at`, `batch`, `atq` and `atrm` ask for.
+-- What the words of `at`, `batch`, `atq` and `atrm` request.
 use Rattle.std.specs.Prelude.{◌&&◌, ◌||◌, [], ◌∷◌, ℕ, Bool, true, List, Option, Some, None, Result, Ok, Err, codes, if◌then◌else◌, option_map}
 use Rattle.std.specs.List.{join_by}
 use Rattle.clap.specs.Walk.{Row, Text, first_of}
@@ -33,7 +33,7 @@ abbrev pub number_filter : List Text → Result Filter WordsFault
 number_filter [] = Ok All
 number_filter (operand ∷ others) = on_ok Numbers (or_usage (numbers_of (operand ∷ others)))
 
--- the jobs that a listing is asked for
+-- the jobs that a listing is requested
 abbrev pub filter_asked : Option Text → List Text → Result Filter WordsFault
 filter_asked (Some text) [] = letter_filter text
 filter_asked (Some text) (operand ∷ others) = Err Usage

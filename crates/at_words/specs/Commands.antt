@@ -4,7 +4,7 @@ use Rattle.clap.specs.Walk.{Rule, Text}
 use Rattle.clap.specs.Simple.{App, new_rule, new_shape, with_rule}
 use Rattle.clap.specs.declared.builder.action.ArgAction.TheVariants.{Append, Set, SetTrue}
 
--- a command without arguments, and without a flag that asks for help
+-- a command without arguments, and without a flag that requests help
 unfoldable pub bare_app : Text → App
 bare_app name = record { top = record (new_shape name) { disable_help_flag = true }; subs = [] }
 

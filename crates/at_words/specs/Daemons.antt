@@ -1,4 +1,4 @@
--- What the words of `atd` and `atday` ask for.
+-- What the words of `atd` and `atday` request.
 use Rattle.std.specs.Prelude.{ℕ, Bool, List, Option, Some, None, Result, Ok, Err, codes, option_map}
 use Rattle.clap.specs.Walk.{Row, Text, first_of}
 use Rattle.at_words.specs.Answers.{or_usage}

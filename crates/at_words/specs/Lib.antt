@@ -4,7 +4,7 @@ pub mod Commands
 pub mod Daemons
 pub mod Digits
 pub mod Numbers
-pub mod Parsing
+pub mod ParseResult
 pub mod Queues
 pub mod Requests
 pub mod Rows

@@ -12,7 +12,7 @@ use Rattle.at_words.specs.declared.tool.Tool.{Tool}
 use Rattle.at_words.specs.declared.tool.Tool.TheVariants.{At, Batch, Atq, Atrm, Atd, Atday}
 use Rattle.at_words.specs.declared.tool_request.ToolRequest.{ToolRequest}
 
--- what a tool is asked for by these words, the first of which stands for its name
+-- what a tool is requested by these words, the first of which stands for its name
 unfoldable pub request_to : Tool → List Text → Result ToolRequest WordsFault
 request_to At words = asked_of at_app at_asked words
 request_to Batch words = asked_of batch_app batch_asked words
@@ -21,7 +21,7 @@ request_to Atrm words = asked_of atrm_app atrm_asked words
 request_to Atd words = asked_of atd_app atd_asked words
 request_to Atday words = asked_of atday_app atday_asked words
 
--- what the words after the tool's name ask for
+-- what the words after the tool's name request
 abbrev pub request_by : Option (Tool × ℕ) → List Text → Result ToolRequest WordsFault
 request_by None words = Err Usage
 request_by (Some found) words = request_to found.0 (drop (found.1 - 1) words)

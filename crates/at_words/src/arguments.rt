@@ -8,7 +8,7 @@ ghost use Rattle.clap.specs.Walk.{first_of, rows_of, texts};
 ghost use Rattle.clap.specs.Values.{kind_of};
 ghost use Rattle.clap.specs.declared.error.kind.ErrorKind.TheVariants.{OutOfMemory};
 ghost use Rattle.at_words.specs.Rows.{is_given, is_set, operands_of, text_of};
-ghost use Rattle.at_words.specs.Parsing.{Parses};
+ghost use Rattle.at_words.specs.ParseResult.{Parses};
 
 use crate::WordsFault;
 use clap::error::ErrorKind;

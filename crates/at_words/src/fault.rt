@@ -1,10 +1,10 @@
-//! Why words ask for nothing.
+//! Why words request nothing.
 ghost use Rattle.std.specs.Prelude.{◌≡◌};
 ghost use Rattle.at_words.specs.declared.fault.WordsFault.TheVariants as fault;
 
 use std::alloc::AllocError;
 
-/// Why words ask for nothing.
+/// Why words request nothing.
 #[derive(Clone, Copy, Debug, PartialEq, Eq)]
 pub enum WordsFault {
     /// The tool does not take these words.

@@ -32,7 +32,7 @@ impl Numbers {
         }
     }
 
-    /// The numbers of a list in which each stands once. Takes no memory.
+    /// The numbers of a list in which each occurs once. Takes no memory.
     pub fn of_distinct(numbers: Vec<u32>) -> Numbers
         requires { IsTrue (are_distinct numbers.items) }
         ensures { result ≡ numbers.items }

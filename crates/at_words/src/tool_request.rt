@@ -1,8 +1,8 @@
-//! What words ask for.
+//! What words request.
 use crate::{Filter, Numbers, When};
 use host_calls::Text;
 
-/// What the words of a tool ask for.
+/// What the words of a tool request.
 #[derive(Drop)]
 pub enum ToolRequest {
     Submit {

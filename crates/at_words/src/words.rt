@@ -7,7 +7,7 @@ ghost use Rattle.at_words.specs.Requests.{request_by, request_of, request_to};
 use crate::{Tool, ToolRequest, WordsFault, at, atd, atday, atq, atrm, batch, tool_of};
 use std::alloc::Global;
 
-/// What the words ask for: the tool that they name, with what stands after its name.
+/// What the words request: the tool that they name, with what is after its name.
 pub fn request(alloc: Global, words: &[String]) -> Result<ToolRequest, WordsFault>
     ensures asked { Answers (request_of (map string_bytes words.now)) result }
     ensures letter { IfOk result HasQueueLetter }
@@ -15,7 +15,7 @@ pub fn request(alloc: Global, words: &[String]) -> Result<ToolRequest, WordsFaul
     request_by(alloc, tool_of(words), words)
 }
 
-/// What the words ask for, where the tool that they name is known, with the place at which its own words begin.
+/// What the words request, where the tool that they name is known, with the place at which its own words begin.
 pub fn request_by(
     alloc: Global,
     named: Option<(Tool, usize)>,
@@ -32,7 +32,7 @@ pub fn request_by(
     }
 }
 
-// What the tool is asked for by these words, the first of which stands for its name.
+// What the tool is requested by these words, the first of which stands for its name.
 fn request_to(alloc: Global, tool: Tool, words: &[String]) -> Result<ToolRequest, WordsFault>
     ensures { Answers (request_to tool (map string_bytes words.now)) result }
 {

@@ -15,7 +15,7 @@ pub struct SpoolSources {
     pub is_root: bool,
     /// The caller's name.
     pub user: Text,
-    /// The caller's home directory, where it is there and is the caller's own.
+    /// The caller's home directory, where it exists and is the caller's own.
     pub home: Option<Text>,
     /// The value of XDG_STATE_HOME; empty where it is absent.
     pub state: Text,

@@ -5,11 +5,11 @@ ghost use Rattle.civil_minute.specs.ZoneText.{IsZoneOf};
 ghost use Rattle.caller_spool.specs.Zones.{zone_text};
 
 use caller_environment::{CallerSettings, job_variables};
-use cause_output::Caller;
 use civil_minute::{Zone, zone_of};
 use host_calls::Text;
 use job_script::Context;
 use std::alloc::{AllocError, Global};
+use tool_output::Caller;
 
 /// The caller of a process with these variables, of whom this is set: what a job takes over of their environment, and the
 /// zone in which times are read. The zone is the rule that is set, or else the value that TZ has.

@@ -4,13 +4,13 @@ ghost use Rattle.std.specs.Prelude.{◌<◌};
 use crate::caller_with::caller_by;
 use crate::user::{CallingUser, calling_user};
 use caller_environment::{CallerSettings, MAX_ZONE_FILE, rule_in, zone_file};
-use cause_output::Caller;
 use host_calls::Text;
 use process_input::{environment_variables, umask_in, variable};
 use std::alloc::AllocError;
 use std::fs::File;
 use std::io::ErrorKind;
 use std::{env, fs, str};
+use tool_output::Caller;
 
 /// What the system reports of this process.
 pub const PROCESS_STATUS: &str = "/proc/self/status";

@@ -15,7 +15,7 @@ mod user;
 pub use caller_with::caller_by;
 pub use invoker::{Invoker, PROCESS_STATUS, invoker_of, user_of_process};
 pub use machine_lists::{LISTS, may_call};
-pub use own_spool::{DAEMON_LOCK, make_lock_file, sync_folder};
+pub use own_spool::{DAEMON_LOCK, make_lock_file, sync_directory};
 pub use owners::{is_link, is_theirs};
 pub use permission::{SpoolOwner, may_save_into, may_work_on};
 pub use spool_paths::{SpoolPaths, is_directory_there, is_same_directory, path_within, paths_of};

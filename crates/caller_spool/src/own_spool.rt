@@ -57,15 +57,15 @@ fn create_directory(rt: &HostRuntime, path: &str) -> io::Result<()> {
         Err(error) => return Err(error),
     }
     // Its name is durable before anything is put into it.
-    sync_folder(rt, path)?;
+    sync_directory(rt, path)?;
     match Path::new(path).parent() {
-        Some(parent) => sync_folder(rt, parent.as_str()),
+        Some(parent) => sync_directory(rt, parent.as_str()),
         None => Ok(()),
     }
 }
 
 /// Syncs a directory.
-pub fn sync_folder(rt: &HostRuntime, path: &str) -> io::Result<()> {
+pub fn sync_directory(rt: &HostRuntime, path: &str) -> io::Result<()> {
     File::open(rt, path)?.sync_all()
 }
 
@@ -74,7 +74,7 @@ fn make_list(rt: &HostRuntime, spool: &str) -> io::Result<()> {
     make_lock_file(rt, spool, DAEMON_LOCK)?;
     let deny = path_within(rt, spool, "at.deny")?;
     open_own(rt, deny.as_str())?.sync_all()?;
-    sync_folder(rt, spool)
+    sync_directory(rt, spool)
 }
 
 /// Makes an empty file in a spool, which a daemon locks, and opens it to be written to. It is durable then.
@@ -82,7 +82,7 @@ pub fn make_lock_file(rt: &HostRuntime, spool: &str, name: &str) -> io::Result<F
     let path = path_within(rt, spool, name)?;
     let file = open_own(rt, path.as_str())?;
     file.sync_all()?;
-    sync_folder(rt, spool)?;
+    sync_directory(rt, spool)?;
     Ok(file)
 }
 

@@ -1,4 +1,4 @@
-//! Whose files are: a spool of another user is not used, and no link is followed that lies beside a spool.
+//! Whose files are: a spool of another user is not used, and no link is followed that lies next to a spool.
 use crate::spool_paths::SpoolPaths;
 use std::fs;
 use std::os::unix::fs::MetadataExt;

@@ -8,10 +8,10 @@ use crate::user::CallingUser;
 use caller_environment::ToolName;
 use std::alloc::AllocError;
 
-/// Whose a spool is, with what lies beside it.
+/// Whose a spool is, with what lies next to it.
 #[derive(Clone, Copy, Debug, PartialEq, Eq)]
 pub struct SpoolOwner {
-    /// All of it that is there is the caller's.
+    /// All of it that exists is the caller's.
     pub is_caller: bool,
     /// Its lock or the directory of its outputs is a link.
     pub has_links: bool,

@@ -1,4 +1,4 @@
-//! The paths of a spool and of what lies beside it.
+//! The paths of a spool and of what lies next to it.
 use std::alloc::AllocError;
 use std::fs;
 use std::os::unix::fs::MetadataExt;
@@ -52,10 +52,10 @@ fn whole_path(rt: &HostRuntime, spool: &str) -> Result<Option<String>, AllocErro
 }
 
 /// The path of a name in a directory.
-pub fn path_within(rt: &HostRuntime, folder: &str, name: &str) -> Result<String, AllocError> {
-    match folder {
-        "/" => with_ending(rt, folder, name),
-        _ => format!(in rt.alloc(); "{folder}/{name}"),
+pub fn path_within(rt: &HostRuntime, directory: &str, name: &str) -> Result<String, AllocError> {
+    match directory {
+        "/" => with_ending(rt, directory, name),
+        _ => format!(in rt.alloc(); "{directory}/{name}"),
     }
 }
 
@@ -64,7 +64,7 @@ fn with_ending(rt: &HostRuntime, path: &str, ending: &str) -> Result<String, All
 }
 
 /// Whether a directory of this user has the path.
-pub fn is_folder_of(rt: &HostRuntime, path: &str, user: u32) -> bool {
+pub fn is_directory_of(rt: &HostRuntime, path: &str, user: u32) -> bool {
     match fs::metadata(rt, path) {
         Ok(found) => found.is_dir() && found.uid() == user,
         Err(_) => false,
@@ -79,7 +79,7 @@ pub fn is_directory_there(rt: &HostRuntime, path: &str) -> bool {
     }
 }
 
-/// Whether both paths name one directory, which is there.
+/// Whether both paths name one directory, which exists.
 pub fn is_same_directory(rt: &HostRuntime, one: &str, other: &str) -> bool {
     match (fs::metadata(rt, one), fs::metadata(rt, other)) {
         (Ok(one), Ok(other)) => {

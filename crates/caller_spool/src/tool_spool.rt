@@ -3,11 +3,11 @@ ghost use Rattle.std.specs.Prelude.{◌≡◌};
 ghost use Rattle.caller_spool.specs.Tools.{names_spool};
 
 use crate::own_spool::make_spool;
-use crate::spool_paths::{is_directory_there, is_folder_of};
+use crate::spool_paths::{is_directory_of, is_directory_there};
 use crate::user::CallingUser;
 use caller_environment::{MeantSpool, SpoolSources, ToolName, meant_spool};
 use host_calls::Text;
-use process_input::{take_folder, variable_or};
+use process_input::{take_directory, variable_or};
 use std::alloc::AllocError;
 
 /// The spool that a tool works on.
@@ -27,7 +27,7 @@ pub fn spool_of(
     user: &CallingUser,
 ) -> Result<ToolSpool, AllocError> {
     if names_spool(tool) {
-        if let Some(path) = take_folder(words) {
+        if let Some(path) = take_directory(words) {
             return Ok(ToolSpool {
                 path: Text::from(path),
                 is_own: false,
@@ -74,7 +74,7 @@ fn used_place(rt: &HostRuntime, usual: Text, former: Vec<Text>, user: Option<u32
     if is_directory_there(rt, usual.as_str()) {
         return usual;
     }
-    let found = former.into_iter().find(|place| is_folder_of(
+    let found = former.into_iter().find(|place| is_directory_of(
         rt,
         place.as_str(),
         user.unwrap_or(0),

@@ -1,5 +1,5 @@
 //! The user who calls.
-use crate::spool_paths::is_folder_of;
+use crate::spool_paths::is_directory_of;
 use caller_environment::{home_in, name_in_user_line, user_line, user_number_in};
 use host_calls::Text;
 use process_input::{variable, variable_or};
@@ -10,10 +10,10 @@ use std::{fs, str};
 /// The user who calls.
 #[derive(Drop)]
 pub struct CallingUser {
-    /// The number by which the system knows them. None where the system does not tell it.
+    /// The number by which the system knows them. None where the system does not report it.
     pub number: Option<u32>,
     pub name: Text,
-    /// The home directory, where it is there and is the user's own.
+    /// The home directory, where it exists and is the user's own.
     pub home: Option<Text>,
 }
 
@@ -52,13 +52,14 @@ pub fn calling_user(rt: &HostRuntime, status: &[u8]) -> Result<CallingUser, Allo
     }
 }
 
-// The directory, where it is there and is the user's own.
+// The directory, where it exists and is the user's own.
 fn own_home(rt: &HostRuntime, home: Text, number: u32) -> Option<Text> {
-    let is_own = is_folder_of(rt, home.as_str(), number);
+    let is_own = is_directory_of(rt, home.as_str(), number);
     Some(home).filter(|_| is_own)
 }
 
-// The name and the home directory of a user, by the table of the machine, or else by what the system asks for users.
+// The name and the home directory of a user, by the table of the machine, or else by the place where the system looks
+// up users.
 fn user_entry(
     rt: &HostRuntime,
     number: u32,

@@ -14,8 +14,8 @@ use Rattle.civil_minute.specs.Zone.{rules_of}
 use Rattle.civil_minute.specs.inside.Reckoning.{IsLocalTime, LeavesRange, days_ahead}
 use Rattle.civil_minute.specs.declared.civil.TheConstants.{SECONDS_AN_HOUR}
 use Rattle.civil_minute.specs.declared.picked.TheConstants.{LAST_TODAY}
-use Rattle.clock_range.specs.ClockRange.{IsClockMinute, IsClockSecond, minute_at}
-use Rattle.clock_range.specs.declared.range.TheConstants.{LAST_SECOND}
+use Rattle.host_calls.specs.ClockRange.{IsClockMinute, IsClockSecond, minute_at}
+use Rattle.host_calls.specs.declared.clock_seconds.TheConstants.{LAST_SECOND}
 use Rattle.civil_minute.specs.declared.fault.DateFault.{DateFault}
 use Rattle.civil_minute.specs.declared.fault.DateFault.TheVariants.{NoSuchDay, OutOfRange}
 use Rattle.civil_minute.specs.declared.zone.Zone.{Zone}

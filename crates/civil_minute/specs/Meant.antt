@@ -14,7 +14,7 @@ use Rattle.timespec_grammar.specs.declared.date.DatePart.TheVariants.{Absent, Mo
 use Rattle.timespec_grammar.specs.declared.increment.Increment.{Increment}
 use Rattle.timespec_grammar.specs.declared.timespec.Timespec.{Timespec}
 use Rattle.touch_time.specs.declared.touch.TouchTime.{TouchTime}
-use Rattle.clock_range.specs.ClockRange.{IsClockSecond, minute_at}
+use Rattle.host_calls.specs.ClockRange.{IsClockSecond, minute_at}
 use Rattle.civil_minute.specs.Zone.{offset_in, rules_of}
 use Rattle.civil_minute.specs.declared.civil.TheConstants.{LAST_YEAR, SECONDS_A_DAY, SECONDS_AN_HOUR}
 use Rattle.civil_minute.specs.declared.fault.DateFault.{DateFault}

@@ -1,6 +1,6 @@
 //! The civil time of a minute.
 ghost use Rattle.std.specs.Prelude.{◌*◌, pos, IsOk, IfOk};
-ghost use Rattle.clock_range.specs.ClockRange.{IsClockMinute, IsClockSecond};
+ghost use Rattle.host_calls.specs.ClockRange.{IsClockMinute, IsClockSecond};
 ghost use Rattle.civil_minute.specs.Civil.{IsCivilTime, IsPrintable};
 ghost use Rattle.civil_minute.specs.inside.Reckoning.{HasFields, IsLocalTime};
 ghost use Rattle.civil_minute.specs.Zone.{IsReadable};

@@ -2,7 +2,7 @@
 ghost use Rattle.std.specs.Prelude.{◌≡◌, ◌≤◌, ◌<◌, ◌+ℤ◌, pos, neg_ℤ, IfSome, IfOk, IfErr, false};
 ghost use Rattle.jiff.specs.Words.{IsBetween, epoch_day};
 ghost use Rattle.jiff_core.specs.Time.{time_seconds};
-ghost use Rattle.clock_range.specs.ClockRange.{IsClockMinute, IsClockSecond};
+ghost use Rattle.host_calls.specs.ClockRange.{IsClockMinute, IsClockSecond};
 ghost use Rattle.civil_minute.specs.Meant.{Becomes, IsAnswer, IsBaseInstant, IsOnlyMeaning, IsOnlyTouchMeaning, IsPickable, IsTimeOfDay, TimespecMeans, TouchMeans};
 ghost use Rattle.civil_minute.specs.Meant as meant;
 ghost use Rattle.civil_minute.specs.Zone.{IsReadable};
@@ -12,7 +12,7 @@ use crate::civil::{LAST_YEAR, SECONDS_A_DAY, SECONDS_AN_HOUR, local_at};
 use crate::later::{MAX_ADDED, MAX_INSTANT, instant_of, later_date, later_seconds};
 use crate::picked::{date_in, picked_date, year_of_touch};
 use crate::{DateFault, Zone};
-use clock_range::{is_clock_second, minute_at};
+use host_calls::{is_clock_second, minute_at};
 use jiff_core::civil::{Date, Time};
 use std::alloc::Global;
 use timespec_grammar::{Clock, Increment, Timespec};

@@ -10,12 +10,12 @@ use Rattle.listing_text.specs.declared.refusal.Refusal.{Refusal}
 use Rattle.spool_model.specs.declared.step.Step.{Step}
 use Rattle.spool_model.specs.JobTable.{JobTable}
 use Rattle.spool_shows.specs.Shown.{shown_by}
-use Rattle.cause_output.specs.declared.caller.Caller.{Caller}
+use Rattle.tool_output.specs.declared.caller.Caller.{Caller}
 use Rattle.command_rules.specs.Ends.{CommandEnds, IsNoRefusal, KeepsOrder}
 use Rattle.command_rules.specs.Found.{Asked, Found}
-use Rattle.command_rules.specs.Laws.{CrashesLeavePrefixes, RefusalsChangeNothing, WhatIsAllowedIsDone, WhatIsDoneStands, WhatIsRefusedHasNoStep}
+use Rattle.command_rules.specs.Laws.{CrashesLeavePrefixes, RefusalsChangeNothing, WhatIsAllowedIsDone, FinishedWorkIsKept, WhatIsRefusedHasNoStep}
 use Rattle.command_rules.specs.Requested.{AreAskedSteps, OrNone}
-use Rattle.cause_output.specs.Sinks.{SinkAt}
+use Rattle.tool_output.specs.Sinks.{SinkAt}
 use Rattle.command_rules.specs.Spool.{SpoolEnds}
 use Rattle.command_rules.specs.Verdict.{verdict_of}
 use Rattle.command_rules.proofs.SpoolLemmas.{attempt_of, refusal_left, shown_as_before}
@@ -43,7 +43,7 @@ module _ (Notes : Cause → (List ℕ → Type 0) → SinkAt → SinkAt → Type
   allowed_is_done asked caller tells before after cause known table shown none files input output busy =
       let ends : CommandEnds Notes asked caller tells before after cause = known.ends in
       let verdict : verdict_of asked caller ends.found ends.shown ≡ None =
-      ap (verdict_of asked caller ends.found) ((ends.folder known.files known.alone).table ∙ shown) ∙ none in
+      ap (verdict_of asked caller ends.found) ((ends.directory known.files known.alone).table ∙ shown) ∙ none in
       done_or_memory (AreAskedSteps asked caller ends.found) before.spool after.spool table cause shown
       (subst (λ (of : Option Refusal). KeepsOrder of cause) verdict ends.order)
       (ends.spool known.files known.alone) files input output busy
@@ -76,7 +76,7 @@ module _ (Notes : Cause → (List ℕ → Type 0) → SinkAt → SinkAt → Type
         | inr begun ↦ inr (begun.0, refused_begun asked caller known.ends.found before.spool after.spool refusal begun.0 begun.1 refused begun.2 begun.3)
       ]
 
-  pub done_stands : WhatIsDoneStands Notes
-  done_stands asked caller tells before after known =
+  pub done_holds : FinishedWorkIsKept Notes
+  done_holds asked caller tells before after known =
       let achieved : Achieves (AreAskedSteps asked caller known.ends.found) before.spool after.spool = known.ends.spool known.files known.alone in
       (achieved.0, achieved.1, achieved.3.begun.shown, achieved.2, achieved.3.whole)

@@ -17,15 +17,15 @@ use Rattle.command_rules.proofs.SpoolLemmas.{without_steps}
 
 module _ (AreSteps : JobTable → List Step → Type 0) (old middle new : World) (table : JobTable) (kept : Kept)
     (is : IsRecovery old middle table kept) where
-  -- after the recovery the folder shows the table, without a step
-  pub stands_still : new ≡ middle → Achieves AreNoSteps old new
-  stands_still same =
+  -- after the recovery the directory shows the table, without a step
+  pub holds_still : new ≡ middle → Achieves AreNoSteps old new
+  holds_still same =
       let achieved : IsAchieved table [] old middle =
       made_steps_are_achieved table [] [] [] kept old middle middle is.shown is.changes is.others (no_steps_are_made table kept middle is.current) in
       (table, [], refl, subst (IsAchieved table [] old) (sym same) achieved)
 
   still : new ≡ middle → Attempts (OrNone AreSteps) old new
-  still same = without_steps AreSteps old new (stands_still same)
+  still same = without_steps AreSteps old new (holds_still same)
 
   worked_out : IsWorkedOut AreSteps table middle new → Achieves AreSteps old new
   worked_out worked = (
@@ -47,5 +47,5 @@ module _ (AreSteps : JobTable → List Step → Type 0) (old middle new : World)
   works_end FileFault works = worked_on works
   works_end Memory works = worked_on works
   works_end (Refused refusal) works =
-      subst (λ (after : Bool). MatchBool after (Achieves AreNoSteps old new) (new ≡ old)) (sym works.0) (stands_still works.1)
+      subst (λ (after : Bool). MatchBool after (Achieves AreNoSteps old new) (new ≡ old)) (sym works.0) (holds_still works.1)
   works_end _ works = absurd works

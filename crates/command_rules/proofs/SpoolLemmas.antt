@@ -2,7 +2,7 @@
 use Rattle.std.proofs.Common.{◌≡◌, ◌⊎◌, Bool, true, false, List, [], sym, subst, ◌∙◌, inl, inr}
 use Rattle.std.specs.Prelude.{MatchBool}
 use Rattle.host_calls.specs.World.{World, reading}
-use Rattle.host_calls.proofs.FolderLemmas.{reading_is_image}
+use Rattle.host_calls.proofs.DirectoryLemmas.{reading_is_image}
 use Rattle.whole_file.proofs.OthersLemmas.{changes_none}
 use Rattle.spool_model.specs.declared.step.Step.{Step}
 use Rattle.spool_model.specs.JobTable.{JobTable}
@@ -13,14 +13,14 @@ use Rattle.step_runs.proofs.AttemptLemmas.{recoveries_begin_nothing}
 use Rattle.listing_text.specs.declared.cause.Cause.{Cause}
 use Rattle.listing_text.specs.declared.cause.Cause.TheVariants.{Done, Refused, FileFault, InputFault, OutputFault, Busy, Memory, Damaged}
 use Rattle.listing_text.specs.declared.refusal.Refusal.{Refusal}
-use Rattle.command_rules.specs.Checks.{check_of, is_earlier_check, of_folder}
+use Rattle.command_rules.specs.Checks.{check_of, is_earlier_check, of_spool}
 use Rattle.command_rules.specs.Requested.{AreNoSteps, OrNone}
 use Rattle.command_rules.specs.Spool.{RefusalLeaves, SpoolEnds}
 
 -- where the spool is as it was, no step was begun
 pub unbegun_same : (old new : World) → new ≡ old → IsUnbegun old new
 unbegun_same old new same =
-    subst (IsUnbegun old) (sym same) (recoveries_begin_nothing old old (changes_none (ShowsAsBefore old.now.folder) old))
+    subst (IsUnbegun old) (sym same) (recoveries_begin_nothing old old (changes_none (ShowsAsBefore old.now.directory) old))
 
 -- what is achieved was begun
 attempt_achieved : (AreSteps : JobTable → List Step → Type 0) (old new : World) → Achieves AreSteps old new → Attempts (OrNone AreSteps) old new
@@ -37,13 +37,13 @@ refusal_cases true old new leaves = inl leaves
 refusal_cases false old new leaves = inr leaves
 
 pub refusal_left : (refusal : Refusal) (old new : World) → RefusalLeaves refusal old new → Achieves AreNoSteps old new ⊎ (new ≡ old)
-refusal_left refusal old new leaves = refusal_cases (is_earlier_check of_folder (check_of refusal)) old new leaves
+refusal_left refusal old new leaves = refusal_cases (is_earlier_check of_spool (check_of refusal)) old new leaves
 
--- after no steps the folder shows what it showed
+-- after no steps the directory shows what it showed
 pub shown_as_before : (old new : World) → Achieves AreNoSteps old new → shown_by (reading new) ≡ shown_by (reading old)
 shown_as_before old new achieved =
     let whole : IsAchieved achieved.0 [] old new = subst (λ (steps : List Step). IsAchieved achieved.0 steps old new) achieved.2 achieved.3 in
-    whole.whole (reading new) (reading_is_image new.now.folder) ∙ sym whole.begun.shown
+    whole.whole (reading new) (reading_is_image new.now.directory) ∙ sym whole.begun.shown
 
 attempt_refused : (AreSteps : JobTable → List Step → Type 0) (refusal : Refusal) (old new : World) → RefusalLeaves refusal old new →
     Attempts (OrNone AreSteps) old new

@@ -18,7 +18,7 @@ pub data Check : Type 0 where
   of_lock : Check
   of_lists : Check
   of_access : Check
-  of_folder : Check
+  of_spool : Check
   of_room : Check
   of_number : Check
   of_jobs : Check
@@ -40,7 +40,7 @@ place_of_check of_length = 10
 place_of_check of_lock = 11
 place_of_check of_lists = 12
 place_of_check of_access = 13
-place_of_check of_folder = 14
+place_of_check of_spool = 14
 place_of_check of_room = 15
 place_of_check of_number = 16
 place_of_check of_jobs = 17

@@ -8,7 +8,7 @@ use Rattle.at_words.specs.declared.when.When.{When}
 use Rattle.civil_minute.specs.declared.zone.Zone.{Zone}
 use Rattle.host_calls.specs.declared.damage.Damage.{Damage}
 use Rattle.host_calls.specs.Clock.{Answers, with_now}
-use Rattle.host_calls.specs.Folder.{Files}
+use Rattle.host_calls.specs.Directory.{Files}
 use Rattle.host_calls.specs.Inputs.{Contents, IsInputPrefix}
 use Rattle.job_script.specs.declared.writer.TheConstants.{MAX_COMMANDS}
 use Rattle.listing_text.specs.declared.refusal.Refusal.{Refusal}
@@ -36,11 +36,11 @@ allow_file = codes "at.allow"
 abbrev pub deny_file : List ℕ
 deny_file = codes "at.deny"
 
--- what the words ask for
+-- what the words request
 abbrev pub Asked : Type 0
 Asked = Result ToolRequest WordsFault
 
--- the words ask for a submission
+-- the words request a submission
 abbrev pub is_submission : Asked → Bool
 is_submission (Ok (request.Submit queue mail file when)) = true
 is_submission (Ok (request.List filter)) = false
@@ -50,7 +50,7 @@ is_submission (Ok (request.Daemon limit interval once turns)) = false
 is_submission (Ok (request.Make count)) = false
 is_submission (Err fault) = false
 
--- a listing is asked for
+-- a listing is requested
 abbrev pub is_listing : Asked → Bool
 is_listing (Ok (request.List filter)) = true
 is_listing (Ok (request.Submit queue mail file when)) = false
@@ -92,7 +92,7 @@ Finds tells (Ok (request.Make count)) zone contents reached found = Unit {0}
 Finds tells (Err fault) zone contents reached found = Unit {0}
 
 -- the lists and the table or the damage are those of the files
-pub record AreInFolder (files : Files) (found : Found) (shown : Result JobTable Damage) : Type 0 where
+pub record AreInDirectory (files : Files) (found : Found) (shown : Result JobTable Damage) : Type 0 where
   pub allow : found.allow ≡ finite.get files allow_file
   pub deny : found.deny ≡ finite.get files deny_file
   pub table : shown ≡ shown_by files

@@ -10,15 +10,15 @@ use Rattle.spool_model.specs.declared.step.Step.{Step}
 use Rattle.spool_model.specs.JobTable.{JobTable}
 use Rattle.spool_model.specs.Steps.{after_steps}
 use Rattle.spool_shows.specs.Shown.{shown_by}
-use Rattle.cause_output.specs.declared.caller.Caller.{Caller}
+use Rattle.tool_output.specs.declared.caller.Caller.{Caller}
 use Rattle.command_rules.specs.Ends.{CommandEnds}
-use Rattle.cause_output.specs.Outside.{Holding, Telling}
+use Rattle.tool_output.specs.Outside.{Holding, Telling}
 use Rattle.command_rules.specs.Found.{Asked}
 use Rattle.command_rules.specs.Requested.{AreAskedSteps, OrNone}
-use Rattle.cause_output.specs.Sinks.{SinkAt}
+use Rattle.tool_output.specs.Sinks.{SinkAt}
 use Rattle.command_rules.specs.Verdict.{verdict_of}
 
--- the command ended so, on a host that tells its files and is alone
+-- the command ended so, on a host that exposes its files and is alone
 pub record EndsExposed (Notes : Cause → (List ℕ → Type 0) → SinkAt → SinkAt → Type 0) (asked : Asked)
     (caller : Caller) (tells : Telling)
     (before after : Holding) (cause : Cause) : Type 0 where
@@ -27,7 +27,8 @@ pub record EndsExposed (Notes : Cause → (List ℕ → Type 0) → SinkAt → S
   pub alone : tells.alone ≡ true
 
 module _ (Notes : Cause → (List ℕ → Type 0) → SinkAt → SinkAt → Type 0) where
-  -- What is not refused on a folder that shows a table, and meets no fault of the outside, is done or finds no memory.
+  -- What is not refused on a directory that shows a table, and meets no fault of the outside, is done or runs out of
+  -- memory.
   abbrev pub WhatIsAllowedIsDone : Type 0
   WhatIsAllowedIsDone = (asked : Asked) (caller : Caller) (tells : Telling) (before after : Holding) (cause : Cause) →
       (known : EndsExposed Notes asked caller tells before after cause) → (table : JobTable) →
@@ -35,7 +36,7 @@ module _ (Notes : Cause → (List ℕ → Type 0) → SinkAt → SinkAt → Type
       verdict_of asked caller known.ends.found (Ok table) ≡ None → cause ≢ FileFault → cause ≢ InputFault → cause ≢ OutputFault →
       cause ≢ Busy → (cause ≡ Done) ⊎ (cause ≡ Memory)
 
-  -- After a refusal the folder shows what it showed.
+  -- After a refusal the directory shows what it showed.
   abbrev pub RefusalsChangeNothing : Type 0
   RefusalsChangeNothing = (asked : Asked) (caller : Caller) (tells : Telling) (before after : Holding) (refusal : Refusal) →
       EndsExposed Notes asked caller tells before after (Refused refusal) →
@@ -56,8 +57,8 @@ module _ (Notes : Cause → (List ℕ → Type 0) → SinkAt → SinkAt → Type
       Attempts (OrNone (AreAskedSteps asked caller known.ends.found)) before.spool after.spool
 
   -- What is done stands: each image shows the table after all steps of the command.
-  abbrev pub WhatIsDoneStands : Type 0
-  WhatIsDoneStands = (asked : Asked) (caller : Caller) (tells : Telling) (before after : Holding) →
+  abbrev pub FinishedWorkIsKept : Type 0
+  FinishedWorkIsKept = (asked : Asked) (caller : Caller) (tells : Telling) (before after : Holding) →
       (known : EndsExposed Notes asked caller tells before after Done) →
       (table : JobTable) × (steps : List Step) × (shown_by (reading before.spool) ≡ Ok table)
-      × AreAskedSteps asked caller known.ends.found table steps × EachShows after.spool.now.folder (after_steps table steps)
+      × AreAskedSteps asked caller known.ends.found table steps × EachShows after.spool.now.directory (after_steps table steps)

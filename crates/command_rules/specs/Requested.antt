@@ -20,7 +20,7 @@ use Rattle.spool_model.specs.JobTable.{JobEntry, JobTable, entry_at}
 use Rattle.spool_model.specs.Lists.{surplus}
 use Rattle.spool_model.specs.Steps.{after_steps, submission}
 use Rattle.job_script.specs.JobText.{job_for}
-use Rattle.cause_output.specs.declared.caller.Caller.{Caller}
+use Rattle.tool_output.specs.declared.caller.Caller.{Caller}
 use Rattle.command_rules.specs.Found.{Asked, Found}
 use Rattle.command_rules.specs.Times.{minute_in}
 use Rattle.command_rules.specs.Verdict.{verdict_of}
@@ -47,12 +47,12 @@ steps_of_request (request.Show numbers) caller found table = []
 steps_of_request (request.Daemon limit interval once turns) caller found table = []
 steps_of_request (request.Make count) caller found table = []
 
--- and of words that ask for nothing
+-- and of words that request nothing
 abbrev pub steps_asked : Asked → Caller → Found → JobTable → List Step
 steps_asked (Ok asked) caller found table = steps_of_request asked caller found table
 steps_asked (Err fault) caller found table = []
 
--- The steps of a command on the table that the folder shows. A refused one has none, whatever it answers.
+-- The steps of a command on the table that the directory shows. A refused one has none, whatever it answers.
 pub record AreAskedSteps (asked : Asked) (caller : Caller) (found : Found) (table : JobTable) (steps : List Step) : Type 0 where
   pub none : verdict_of asked caller found (Ok table) ≡ None
   pub steps_are : steps ≡ steps_asked asked caller found table
@@ -90,14 +90,14 @@ RequestPrints (request.Remove numbers) caller table text = text ≡ []
 RequestPrints (request.Daemon limit interval once turns) caller table text = text ≡ []
 RequestPrints (request.Make count) caller table text = text ≡ []
 
--- The text is what the command prints where it is done, on the table that the folder shows.
+-- The text is what the command prints where it is done, on the table that the directory shows.
 abbrev pub IsAskedText : Asked → Caller → Found → Result JobTable Damage → List ℕ → Type 0
 IsAskedText (Ok asked) caller found shown text =
     (table : JobTable) × (shown ≡ Ok table) × (verdict_of (Ok asked) caller found shown ≡ None) ×
     RequestPrints asked caller table text
 IsAskedText (Err fault) caller found shown text = ⊥
 
--- the number that a submission draws on what the folder shows
+-- the number that a submission draws on what the directory shows
 abbrev pub next_number : Result JobTable Damage → ℕ
 next_number (Ok table) = table.last + 1
 next_number (Err damage) = 0
@@ -117,7 +117,7 @@ RequestSays (request.Show numbers) zone found number line = line ≡ []
 RequestSays (request.Daemon limit interval once turns) zone found number line = line ≡ []
 RequestSays (request.Make count) zone found number line = line ≡ []
 
--- The line is what the command says to its caller where it is done, on the table that the folder shows.
+-- The line is what the command says to its caller where it is done, on the table that the directory shows.
 abbrev pub IsAskedLine : Asked → Caller → Found → Result JobTable Damage → List ℕ → Type 0
 IsAskedLine (Ok asked) caller found shown line =
     (verdict_of (Ok asked) caller found shown ≡ None) × RequestSays asked caller.zone found (next_number shown) line

@@ -3,7 +3,7 @@ use Rattle.std.specs.Prelude.{◌≡◌, ◌⊎◌, [], ℕ, Bool, true, false, 
 use Rattle.access_lists.specs.Access.{may_use}
 use Rattle.std.specs.FinMap as finite
 use Rattle.host_calls.specs.declared.damage.Damage.{Damage}
-use Rattle.host_calls.specs.Folder.{Files}
+use Rattle.host_calls.specs.Directory.{Files}
 use Rattle.host_calls.specs.World.{World, reading}
 use Rattle.step_runs.specs.Attempts.{IsUnbegun}
 use Rattle.step_runs.specs.WithoutScripts.{without_scripts}
@@ -19,7 +19,7 @@ use Rattle.spool_model.specs.JobTable.{JobTable}
 use Rattle.spool_model.specs.Steps.{AreLegal}
 use Rattle.spool_shows.specs.Shown.{shown_by}
 use Rattle.whole_file.specs.Others.{ChangesFiles}
-use Rattle.command_rules.specs.Checks.{check_of, is_earlier_check, of_folder}
+use Rattle.command_rules.specs.Checks.{check_of, is_earlier_check, of_spool}
 use Rattle.command_rules.specs.Found.{allow_file, deny_file}
 use Rattle.command_rules.specs.Spool.{FindsDamage}
 
@@ -32,12 +32,12 @@ pub record AreListsIn (files : Files) (allow deny : Option (List ℕ)) : Type 0 
   pub allow_is : allow ≡ finite.get files allow_file
   pub deny_is : deny ≡ finite.get files deny_file
 
--- A recovery after which the folder shows the table that its reading showed.
+-- A recovery after which the directory shows the table that its reading showed.
 pub record IsRecovery (old new : World) (table : JobTable) (kept : Kept) : Type 0 where
   pub shown : shown_by (reading old) ≡ Ok table
-  pub changes : ChangesFiles (ShowsAsBefore old.now.folder) old new
-  pub others : KeepsOthers old.now.folder new.now.folder
-  pub current : IsCurrent kept new.now.folder table
+  pub changes : ChangesFiles (ShowsAsBefore old.now.directory) old new
+  pub others : KeepsOthers old.now.directory new.now.directory
+  pub current : IsCurrent kept new.now.directory table
 
 -- The lists permit the user, and the store was recovered, whose table this is.
 pub record IsStoreOpened (tells : Bool) (user : List ℕ) (old new : World) (kept : Kept) : Type 0 where
@@ -49,8 +49,9 @@ pub record IsStoreOpened (tells : Bool) (user : List ℕ) (old new : World) (kep
   pub lists : tells ≡ true → AreListsIn (reading old) allow deny
   pub recovered : tells ≡ true → IsRecovery old new table kept
 
--- Why a session has no store: the lists could not be read, for a file fault or want of memory; they refuse the user; or
--- they permit the user, and the recovery found a fault, no memory or a damage. Nothing is settled for a user whom they refuse.
+-- Why a session has no store: the lists could not be read, for a file fault or an out-of-memory error; they refuse the user;
+-- or they permit the user, and the recovery found a fault, no memory or a damage. Nothing is settled for a user whom they
+-- refuse.
 pub data IsNotOpened (tells : Bool) (user : List ℕ) (old new : World) : Cause → Type 0 where
   lists_fault : (tells ≡ true → new ≡ old) → IsNotOpened tells user old new FileFault
   lists_lack_memory : (tells ≡ true → new ≡ old) → IsNotOpened tells user old new Memory
@@ -87,5 +88,5 @@ CommandWorks AreSteps table old new Done = IsWorkedOut AreSteps table old new
 CommandWorks AreSteps table old new OutputFault = IsWorkedOut AreSteps table old new
 CommandWorks AreSteps table old new FileFault = (new ≡ old) ⊎ IsWorkedOn AreSteps table old new
 CommandWorks AreSteps table old new Memory = (new ≡ old) ⊎ IsWorkedOn AreSteps table old new
-CommandWorks AreSteps table old new (Refused refusal) = (is_earlier_check of_folder (check_of refusal) ≡ true) × (new ≡ old)
+CommandWorks AreSteps table old new (Refused refusal) = (is_earlier_check of_spool (check_of refusal) ≡ true) × (new ≡ old)
 CommandWorks AreSteps table old new _ = ⊥

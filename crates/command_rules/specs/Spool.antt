@@ -9,10 +9,10 @@ use Rattle.listing_text.specs.declared.refusal.Refusal.{Refusal}
 use Rattle.spool_model.specs.declared.step.Step.{Step}
 use Rattle.spool_model.specs.JobTable.{JobTable}
 use Rattle.spool_shows.specs.Shown.{shown_by}
-use Rattle.command_rules.specs.Checks.{check_of, is_earlier_check, of_folder}
+use Rattle.command_rules.specs.Checks.{check_of, is_earlier_check, of_spool}
 use Rattle.command_rules.specs.Requested.{AreNoSteps, OrNone}
 
--- the folder shows the damage, and reads as before
+-- the directory shows the damage, and reads as before
 pub record FindsDamage (old new : World) (damage : Damage) : Type 0 where
   pub shown : shown_by (reading old) ≡ Err damage
   pub unbegun : IsUnbegun old new
@@ -20,10 +20,10 @@ pub record FindsDamage (old new : World) (damage : Damage) : Type 0 where
 
 -- What is left after a refusal: the spool as it was, or, where it rests on the table, the shown table without a step.
 abbrev pub RefusalLeaves : Refusal → World → World → Type 0
-RefusalLeaves refusal old new = MatchBool (is_earlier_check of_folder (check_of refusal)) (Achieves AreNoSteps old new) (new ≡ old)
+RefusalLeaves refusal old new = MatchBool (is_earlier_check of_spool (check_of refusal)) (Achieves AreNoSteps old new) (new ≡ old)
 
 -- What is left by the cause: all steps where the command is done, or only its output failed; a prefix of them where it
--- failed on the way; none where it was refused or the folder is damaged, which then reads as before.
+-- failed on the way; none where it was refused or the directory is damaged, which then reads as before.
 abbrev pub SpoolEnds : (JobTable → List Step → Type 0) → World → World → Cause → Type 0
 SpoolEnds AreSteps old new Done = Achieves AreSteps old new
 SpoolEnds AreSteps old new OutputFault = Achieves AreSteps old new

@@ -9,7 +9,7 @@ use Rattle.at_words.specs.declared.tool_request.ToolRequest.{ToolRequest}
 use Rattle.at_words.specs.declared.tool_request.ToolRequest.TheVariants as request
 use Rattle.civil_minute.specs.declared.zone.Zone.{Zone}
 use Rattle.civil_minute.specs.Zone.{is_unreadable}
-use Rattle.clock_range.specs.ClockRange.{is_clock_second}
+use Rattle.host_calls.specs.ClockRange.{is_clock_second}
 use Rattle.spool_model.specs.Lists.{is_running, live_count, row_under}
 use Rattle.host_calls.specs.declared.damage.Damage.{Damage}
 use Rattle.job_script.specs.Check.{has_room, is_directory, is_user_name}
@@ -22,16 +22,16 @@ use Rattle.spool_model.specs.declared.number.TheConstants.{LAST_NUMBER}
 use Rattle.spool_model.specs.declared.row.Row.{Row}
 use Rattle.spool_model.specs.JobTable.{JobTable, entry_at}
 use Rattle.spool_model.specs.declared.row.TheConstants.{MAX_LIVE}
-use Rattle.cause_output.specs.declared.caller.Caller.{Caller}
+use Rattle.tool_output.specs.declared.caller.Caller.{Caller}
 use Rattle.command_rules.specs.Found.{Asked, Found}
 
--- the refusal of words that ask for nothing
+-- the refusal of words that request nothing
 abbrev pub words_refusal : WordsFault → Option Refusal
 words_refusal words.Usage = Some Usage
 words_refusal words.BadQueue = Some BadQueue
 words_refusal words.Memory = None
 
--- the user's name can't stand in a job
+-- the user's name can't are in a job
 abbrev pub user_check : Context → Option Refusal
 user_check context = if is_user_name context.user then None else Some BadUser
 
@@ -96,7 +96,7 @@ abbrev pub jobs_check : List ℕ → Bool → JobTable → List ℕ → Option R
 jobs_check user removing table numbers =
     first_refusal (map (λ number. row_check user removing number (live_row table number)) numbers)
 
--- only a listing by numbers asks for jobs
+-- only a listing by numbers requests jobs
 abbrev pub filter_check : List ℕ → JobTable → Filter → Option Refusal
 filter_check user table filter.All = None
 filter_check user table (filter.Queue letter) = None
@@ -108,8 +108,8 @@ submission_checks caller found =
     user_check caller.context ∷ directory_check caller.context ∷ variables_check caller.context
     ∷ clock_check found ∷ zone_check caller.zone ∷ time_check found ∷ length_check found ∷ []
 
--- The checks before the spool is entered. A daemon and a made day are no such commands: what they come to is said where
--- they are made, and asked of a command they are a wrong usage (own).
+-- The checks before the spool is entered. A daemon and a simulated run are no such commands: what they come to is said
+-- where they are made, and asked of a command they are a wrong usage (own).
 abbrev pub early_checks : ToolRequest → Caller → Found → List (Option Refusal)
 early_checks (request.Submit queue mail file when) caller found = submission_checks caller found
 early_checks (request.List filter) caller found = user_check caller.context ∷ zone_check caller.zone ∷ []
@@ -118,7 +118,7 @@ early_checks (request.Show numbers) caller found = user_check caller.context ∷
 early_checks (request.Daemon limit interval once turns) caller found = Some Usage ∷ []
 early_checks (request.Make count) caller found = Some Usage ∷ []
 
--- the checks on a table that the folder shows
+-- the checks on a table that the directory shows
 abbrev pub table_checks : ToolRequest → Caller → JobTable → List (Option Refusal)
 table_checks (request.Submit queue mail file when) caller table = room_check table ∷ number_check table ∷ []
 table_checks (request.List filter) caller table = filter_check caller.context.user table filter ∷ []
@@ -131,7 +131,7 @@ table_checks (request.Make count) caller table = []
 abbrev pub early_verdict : ToolRequest → Caller → Found → Option Refusal
 early_verdict asked caller found = first_refusal (early_checks asked caller found)
 
--- the verdict on what the folder shows: a damage refuses nothing
+-- the verdict on what the directory shows: a damage refuses nothing
 abbrev pub table_verdict : ToolRequest → Caller → Result JobTable Damage → Option Refusal
 table_verdict asked caller (Ok table) = first_refusal (table_checks asked caller table)
 table_verdict asked caller (Err damage) = None

@@ -1,8 +1,8 @@
 //! What follows from how a command ends, each law as the contract of a function.
-ghost use Rattle.command_rules.specs.Laws.{CrashesLeavePrefixes, RefusalsChangeNothing, WhatIsAllowedIsDone, WhatIsDoneStands, WhatIsRefusedHasNoStep};
-ghost use Rattle.cause_output.specs.Sinks.{SaysBy};
+ghost use Rattle.command_rules.specs.Laws.{CrashesLeavePrefixes, RefusalsChangeNothing, WhatIsAllowedIsDone, FinishedWorkIsKept, WhatIsRefusedHasNoStep};
+ghost use Rattle.tool_output.specs.Sinks.{SaysBy};
 
-/// What is allowed and meets no fault of the outside is done, or finds no memory.
+/// What is allowed and meets no fault of the outside is done, or runs out of memory.
 pub fn what_is_allowed_is_done(tool: &str)
     ensures { WhatIsAllowedIsDone (SaysBy tool.now) }
 {}
@@ -18,7 +18,7 @@ pub fn crashes_leave_prefixes(tool: &str)
     ensures { CrashesLeavePrefixes (SaysBy tool.now) }
 {}
 
-/// What is done stands in every image.
-pub fn what_is_done_stands(tool: &str)
-    ensures { WhatIsDoneStands (SaysBy tool.now) }
+/// What is done is in every image.
+pub fn finished_work_is_kept(tool: &str)
+    ensures { FinishedWorkIsKept (SaysBy tool.now) }
 {}

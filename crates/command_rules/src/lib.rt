@@ -2,8 +2,8 @@
 //! leaves a prefix of the steps.
 //!
 //! Its definitions are what a reader of `command` believes, and not what runs. In the order in which to read them:
-//! 1. `Sinks` of cause_output: what is put on a sink, whole, as a prefix, or not at all
-//! 2. `Causes` of cause_output: the cause that each fault of a call becomes
+//! 1. `Sinks` of tool_output: what is put on a sink, whole, as a prefix, or not at all
+//! 2. `Causes` of tool_output: the cause that each fault of a call becomes
 //! 3. `Times`: the minute that the time of a submission means
 //! 4. `Checks` and `Found`: a check and its place in the order; what a command found outside
 //! 5. `Verdict`: the refusal that stands earliest, or none (`verdict_of`)
@@ -16,8 +16,8 @@
 mod laws;
 mod list_names;
 
-pub use cause_output::{Caller, CommandError, cause_of_put, cause_of_words};
 pub use laws::{
-    crashes_leave_prefixes, refusals_change_nothing, what_is_allowed_is_done, what_is_done_stands,
+    crashes_leave_prefixes, finished_work_is_kept, refusals_change_nothing, what_is_allowed_is_done,
 };
 pub use list_names::{allow_name, deny_name};
+pub use tool_output::{Caller, CommandError, cause_of_put, cause_of_words};

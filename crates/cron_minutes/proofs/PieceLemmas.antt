@@ -18,7 +18,7 @@ parts-first [] = refl
 parts-first (Byte byte ∷ pieces) = rw (parts-first pieces) refl
 parts-first (Cut ∷ pieces) = refl
 
--- the lines of parts, with a byte more at the beginning of the first
+-- the lines of parts, with another byte at the beginning of the first
 onto_first-lines : (byte : ℕ) (first : List ℕ) (others : List (List ℕ))
     → flat_map with_newline (onto_first byte (first ∷ others)) ≡ byte ∷ flat_map with_newline (first ∷ others)
 onto_first-lines byte first others = refl
@@ -44,7 +44,7 @@ pub input-end : (text : List ℕ) (all : List Piece) → all ≡ [] → text ++ 
 unfolding input
 input-end text all none = rw none refl
 
--- a byte more of the first part
+-- another byte of the first part
 pub part-more : (text : List ℕ) (all : List Piece) (byte : ℕ) (others : List Piece) → all ≡ Byte byte ∷ others
     → (text ++ byte ∷ []) ++ first_part others ≡ text ++ first_part all
 unfolding first_part

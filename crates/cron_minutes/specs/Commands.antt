@@ -1,6 +1,6 @@
 -- The commands of an entry's job (POSIX.1-2017, XCU crontab, Input Files: a percent sign in the command stands for a
 -- newline unless a backslash comes before it, the shell runs the first line, and the others are its standard input).
--- That a backslash counts before a percent sign alone, and how the lines are handed over, is this project's own.
+-- That a backslash counts before a percent sign alone, and how the lines are started, is this project's own.
 use Rattle.std.specs.Prelude.{ℕ, ◌==◌, ◌&&◌, List, [], ◌∷◌, ◌++◌, codes, if◌then◌else◌}
 use Rattle.std.specs.List.{flat_map, onto_first}
 use Rattle.job_script.specs.JobText.{quoted}

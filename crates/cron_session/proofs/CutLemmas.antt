@@ -2,9 +2,9 @@
 use Rattle.std.proofs.Common.{◌≡◌, ◌⊎◌, ◌++◌, ℕ, true, false, List, [], ◌∷◌, sym, ap, subst, ◌∙◌, refl, inl, inr}
 use Rattle.std.specs.FinMap as finite
 use Rattle.std.proofs.lemmas.List.{append_cancel_right}
-use Rattle.clock_range.specs.ClockRange.{IsClockSecond}
+use Rattle.host_calls.specs.ClockRange.{IsClockSecond}
 use Rattle.host_calls.specs.declared.child.Handed.{Handed}
-use Rattle.host_calls.specs.Folder.{Files, IsImage}
+use Rattle.host_calls.specs.Directory.{Files, IsImage}
 use Rattle.host_calls.specs.World.{AllMoments, AnyMoment, HasEachImage, LeavesOnly, Moment, World, moments, reading}
 use Rattle.host_calls.proofs.WorldLemmas.{AtEach-append, leaves_none}
 use Rattle.whole_file.specs.Others.{ChangesFiles}
@@ -12,10 +12,10 @@ use Rattle.whole_file.proofs.ChangesJoined.{left_alone}
 use Rattle.spool_model.specs.declared.job.Job.{Job}
 use Rattle.spool_model.specs.JobTable.{JobTable}
 use Rattle.spool_shows.specs.Shown.{shown_by}
-use Rattle.cron_mark.specs.Names.{mark_file}
+use Rattle.cron_session.specs.MarkNames.{mark_file}
 use Rattle.cron_session.specs.declared.report.CronEnd.{CronEnd}
 use Rattle.cron_session.specs.declared.report.CronEnd.TheVariants.{Done, Busy, FileFault, Damaged, QueueFull, NumbersUsedUp, Memory}
-use Rattle.cron_session.specs.Leaving.{CronLeaves, IsCronIdle, IsOnTheMark, IsSpoolOrTemp, IsCronStopped, IsUnmarked, Submits}
+use Rattle.cron_session.specs.SessionOutcome.{CronLeaves, IsCronIdle, IsOnTheMark, IsSpoolOrTemp, IsCronStopped, IsUnmarked, Submits}
 use Rattle.cron_session.specs.Minutes.{CutOff, CutSessionsPass, IsCrashOfSession, PassesAs}
 use Rattle.cron_session.specs.Steps.{Cron, minute_of, submissions}
 use Rattle.cron_session.proofs.MinuteLemmas.{IsMarkedSo, unmarked_has_nothing_new}
@@ -38,22 +38,22 @@ module _ (old during new : World) (crash : IsCrashOfSession old during new) wher
       AtEach-append (HasEachImage P) crash.more (old.now ∷ []) (subst (AllMoments (HasEachImage P)) same leaves.each) (start, tt) in
       one_of_each (HasEachImage P) (crash.more ++ old.now ∷ []) crash.at each crash.is_one crash.image crash.was
 
-  changes_crash : (Q : Files → Type 0) → ChangesFiles Q old during → ((image : Files) → IsImage old.now.folder image → Q image) →
+  changes_crash : (Q : Files → Type 0) → ChangesFiles Q old during → ((image : Files) → IsImage old.now.directory image → Q image) →
       Q crash.image
   changes_crash Q changes start =
       (crash_of (λ image handed. Q image × (handed ≡ old.now.handed)) changes.leaves (λ image is. (start image is, refl))).0
 
-  at_start : (image : Files) → IsImage old.now.folder image → IsUnmarked old.now.folder image
-  at_start image is = record { alone = left_alone IsSpoolOrTemp old.now.folder image is; same = refl }
+  at_start : (image : Files) → IsImage old.now.directory image → IsUnmarked old.now.directory image
+  at_start image is = record { alone = left_alone IsSpoolOrTemp old.now.directory image is; same = refl }
 
   idle_crash : (cron : Cron) (numbers : List ℕ) → IsCronIdle numbers old during → IsMarkedSo cron old crash.image
   idle_crash cron numbers idle =
-      inl (unmarked_has_nothing_new old crash.image (changes_crash (IsUnmarked old.now.folder) idle.unmarked at_start))
+      inl (unmarked_has_nothing_new old crash.image (changes_crash (IsUnmarked old.now.directory) idle.unmarked at_start))
 
   submits_crash : (cron : Cron) (table : JobTable) (jobs : List Job) → Submits cron table jobs old during →
       IsMarkedSo cron old crash.image
   submits_crash cron table jobs submits =
-      elim (changes_crash (IsOnTheMark (minute_of cron) table (submissions table.last jobs) old.now.folder) submits.files
+      elim (changes_crash (IsOnTheMark (minute_of cron) table (submissions table.last jobs) old.now.directory) submits.files
       (λ image is. inl (at_start image is))) [
         | inl before ↦ inl (unmarked_has_nothing_new old crash.image before)
         | inr marked ↦ inr (table, jobs, submits.are, marked.come.marked)
@@ -75,8 +75,8 @@ module _ (old during new : World) (crash : IsCrashOfSession old during new) wher
   session_crash cron numbers Busy leaves =
       inl (record {
         from = crash.image;
-        was = crash_of (λ image handed. IsImage old.now.folder image)
-            (leaves_none (λ image handed. IsImage old.now.folder image) old during leaves.1) (λ image is. is);
+        was = crash_of (λ image handed. IsImage old.now.directory image)
+            (leaves_none (λ image handed. IsImage old.now.directory image) old during leaves.1) (λ image is. is);
         mark = refl;
         shows = refl;
       })

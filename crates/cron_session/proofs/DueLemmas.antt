@@ -35,7 +35,7 @@ pub jobs_are_due : (cron : Cron) (civil : CivilMinute) →
     cron_jobs cron.context (minute_of cron) (due_commands cron.entries civil) ≡ map (job_of_entry cron) (filter (λ (entry : CronEntry). is_entry_due entry civil) cron.entries)
 jobs_are_due cron civil = jobs_of cron (filter (λ (entry : CronEntry). is_entry_due entry civil) cron.entries)
 
--- One entry more.
+-- One more entry.
 
 due_join : (civil : CivilMinute) (first later : List CronEntry) → due_commands (first ++ later) civil ≡ due_commands first civil ++ due_commands later civil
 due_join civil first later =

@@ -1,4 +1,5 @@
 pub mod CauseLemmas
+pub mod CronMarkLemmas
 pub mod CutLemmas
 pub mod DueLemmas
 pub mod LoopLemmas

@@ -4,7 +4,7 @@ use Rattle.std.specs.Prelude.{IsErrAnd, Result, Ok, Err, suc}
 use Rattle.std.proofs.lemmas.List.{length-map, length-take-le, map-append, take-append-drop, take_all, take_more}
 use Rattle.host_calls.specs.Session.{Session, StaysInside}
 use Rattle.host_calls.specs.World.{World}
-use Rattle.host_session.proofs.SessionLemmas.{counts_on}
+use Rattle.host_calls.proofs.SessionLemmas.{counts_on}
 use Rattle.job_script.specs.declared.context.Context.{Context}
 use Rattle.spool_model.specs.declared.job.Job.{Job}
 use Rattle.spool_model.specs.JobTable.{JobTable}
@@ -16,14 +16,14 @@ use Rattle.step_runs.specs.Current.{IsCurrent, Kept}
 use Rattle.step_runs.specs.WithoutScripts.{job_without_script}
 use Rattle.cron_session.specs.Steps.{next_numbers, submissions}
 use Rattle.cron_session.specs.inside.Due.{cron_job, cron_jobs}
-use Rattle.cron_session.specs.inside.Submitting.{SubmitsAll, SubmitsOne}
+use Rattle.cron_session.specs.inside.Submissions.{SubmitsAll, SubmitsOne}
 use Rattle.cron_session.proofs.CauseLemmas.{ok_is_none, same_fault}
 use Rattle.cron_session.proofs.SubmitLemmas.{SoFar, files_then, numbers_after-push, one_more, stopped_there}
 
 -- what was left so far by the first of the jobs, on each table with which what was kept is current
 abbrev pub AllSoFar : Bool → Kept → Kept → List Job → List Job → World → World → Type 0
 AllSoFar tells kept store jobs first old here =
-    tells ≡ true → (table : JobTable) → IsCurrent kept old.now.folder table → SoFar table jobs first store old here
+    tells ≡ true → (table : JobTable) → IsCurrent kept old.now.directory table → SoFar table jobs first store old here
 
 -- a fault that is handed on
 pub submits_at : (tells : Bool) (before after : Session) (old new : World) (kept : Kept) (jobs : List Job) (was is : List ℕ)

@@ -2,7 +2,7 @@
 use Rattle.std.proofs.Common.{◌≡◌, ◌∙◌, ℕ, List, [], inl, inr, refl, sym, subst}
 use Rattle.std.specs.Prelude.{Result, Ok, Err, Some}
 use Rattle.std.specs.FinMap as finite
-use Rattle.host_calls.specs.Folder.{Files, Folder, IsImage}
+use Rattle.host_calls.specs.Directory.{Files, Directory, IsImage}
 use Rattle.host_calls.specs.World.{World}
 use Rattle.spool_model.specs.declared.job.Job.{Job}
 use Rattle.spool_model.specs.declared.step.Step.{Step}
@@ -14,27 +14,27 @@ use Rattle.spool_store.proofs.BesideLemmas.{shows_the_same, stays_current}
 use Rattle.step_runs.specs.Calls.{IsSteppingOn}
 use Rattle.step_runs.specs.Current.{EachShows, IsCurrent, IsSpoolName, Kept}
 use Rattle.whole_file.specs.Others.{ChangesFiles, IsEither}
-use Rattle.whole_file.specs.Placing.{IsPlaced, IsPlacing}
+use Rattle.whole_file.specs.Placement.{IsPlaced, IsPlacing}
 use Rattle.whole_file.proofs.ChangesJoined.{changes_end, changes_on, changes_weaker, left_alone}
 use Rattle.whole_file.proofs.OthersLemmas.{one_or_other}
-use Rattle.cron_mark.specs.Mark.{cron_mark_text}
-use Rattle.cron_mark.specs.Names.{mark_file, mark_temp}
-use Rattle.cron_session.specs.Leaving.{HasCome, HasCronMark, IsOnTheMark, IsUnmarked}
+use Rattle.cron_session.specs.Mark.{cron_mark_text}
+use Rattle.cron_session.specs.MarkNames.{mark_file, mark_temp}
+use Rattle.cron_session.specs.SessionOutcome.{HasCome, HasCronMark, IsOnTheMark, IsUnmarked}
 use Rattle.cron_session.specs.Steps.{submissions}
-use Rattle.cron_session.specs.inside.Marking.{MarkingEnds, MarkingLeaves}
-use Rattle.cron_session.specs.inside.Submitting.{IsPartOf, CronPart, SubmissionsLeave}
+use Rattle.cron_session.specs.inside.MarkThenSubmit.{MarkingEnds, MarkingLeaves}
+use Rattle.cron_session.specs.inside.Submissions.{IsPartOf, CronPart, SubmissionsLeave}
 use Rattle.cron_session.proofs.NameLemmas.{both_beside, file_beside}
 
 -- what is placed is the mark of the minute
-abbrev pub IsMarking : ℕ → Folder → Files → Type 0
+abbrev pub IsMarking : ℕ → Directory → Files → Type 0
 IsMarking minute start image = IsPlacing mark_temp mark_file (cron_mark_text minute) start image
 
 -- an image of the start
-not_marked_yet : (minute : ℕ) (start : Folder) (image : Files) → IsImage start image → IsMarking minute start image
+not_marked_yet : (minute : ℕ) (start : Directory) (image : Files) → IsImage start image → IsMarking minute start image
 not_marked_yet minute start image is = record { alone = left_alone (IsEither mark_temp mark_file) start image is; placed = inl refl }
 
 -- an image that has the mark of the start is unmarked
-unmarked : (minute : ℕ) (start : Folder) (image : Files) (is : IsMarking minute start image) →
+unmarked : (minute : ℕ) (start : Directory) (image : Files) (is : IsMarking minute start image) →
     finite.get image mark_file ≡ finite.get is.alone.from mark_file → IsUnmarked start image
 unmarked minute start image is same = record {
   alone = record {
@@ -48,7 +48,7 @@ unmarked minute start image is same = record {
   same = shows_the_same (IsEither mark_temp mark_file) both_beside start image is.alone;
 }
 
-module _ (minute : ℕ) (table : JobTable) (start : Folder) (shows : EachShows start table) where
+module _ (minute : ℕ) (table : JobTable) (start : Directory) (shows : EachShows start table) where
   -- the table is shown still
   still_shows : (image : Files) → IsMarking minute start image → Shows image table
   still_shows image is =
@@ -75,40 +75,40 @@ module _ (minute : ℕ) (table : JobTable) (start : Folder) (shows : EachShows s
   ]
 
 -- The mark could not be placed.
-pub mark_failed : (minute : ℕ) (table : JobTable) (jobs : List Job) (old new : World) (fault : StoreFault) → EachShows old.now.folder table →
-    ChangesFiles (IsMarking minute old.now.folder) old new →
+pub mark_failed : (minute : ℕ) (table : JobTable) (jobs : List Job) (old new : World) (fault : StoreFault) → EachShows old.now.directory table →
+    ChangesFiles (IsMarking minute old.now.directory) old new →
     MarkingLeaves minute table jobs (record { made = []; next = []; later = jobs }) old new (Err fault)
 mark_failed minute table jobs old new fault shows marks = record {
-  files = changes_weaker (IsMarking minute old.now.folder) (IsOnTheMark minute table (submissions table.last jobs) old.now.folder) old new
-      (marking_on minute table old.now.folder shows (submissions table.last jobs)) marks;
+  files = changes_weaker (IsMarking minute old.now.directory) (IsOnTheMark minute table (submissions table.last jobs) old.now.directory) old new
+      (marking_on minute table old.now.directory shows (submissions table.last jobs)) marks;
   ends = λ image is.
-      let at : IsMarking minute old.now.folder image =
-      changes_end (IsMarking minute old.now.folder) old new marks (not_marked_yet minute old.now.folder) image is in
+      let at : IsMarking minute old.now.directory image =
+      changes_end (IsMarking minute old.now.directory) old new marks (not_marked_yet minute old.now.directory) image is in
       elim at.placed [
-        | inl same ↦ inl (refl, unmarked minute old.now.folder image at same, still_shows minute table old.now.folder shows image at)
-        | inr put ↦ inr (come minute table old.now.folder shows [] image at put)
+        | inl same ↦ inl (refl, unmarked minute old.now.directory image at same, still_shows minute table old.now.directory shows image at)
+        | inr put ↦ inr (come minute table old.now.directory shows [] image at put)
       ];
 }
 
 -- The mark was placed.
-module _ (minute : ℕ) (table : JobTable) (kept : Kept) (old middle : World) (current : IsCurrent kept old.now.folder table)
-    (marks : ChangesFiles (IsMarking minute old.now.folder) old middle) (mark : IsPlaced mark_temp mark_file (cron_mark_text minute) old.now.folder middle.now.folder) where
+module _ (minute : ℕ) (table : JobTable) (kept : Kept) (old middle : World) (current : IsCurrent kept old.now.directory table)
+    (marks : ChangesFiles (IsMarking minute old.now.directory) old middle) (mark : IsPlaced mark_temp mark_file (cron_mark_text minute) old.now.directory middle.now.directory) where
   -- what is kept is current still
-  pub current_then : IsCurrent kept middle.now.folder table
-  current_then = stays_current (IsEither mark_temp mark_file) both_beside kept table old.now.folder middle.now.folder current (record {
-    images = λ image is. (changes_end (IsMarking minute old.now.folder) old middle marks (not_marked_yet minute old.now.folder) image is).alone;
-    certain = mark.certain;
+  pub current_then : IsCurrent kept middle.now.directory table
+  current_then = stays_current (IsEither mark_temp mark_file) both_beside kept table old.now.directory middle.now.directory current (record {
+    images = λ image is. (changes_end (IsMarking minute old.now.directory) old middle marks (not_marked_yet minute old.now.directory) image is).alone;
+    durable = mark.durable;
     others = mark.others;
   })
 
   -- an image on the way of the submissions has the mark
-  stepping_marked : (steps : List Step) (image : Files) → IsSteppingOn table steps middle.now.folder image → finite.get image mark_file ≡ Some (cron_mark_text minute)
+  stepping_marked : (steps : List Step) (image : Files) → IsSteppingOn table steps middle.now.directory image → finite.get image mark_file ≡ Some (cron_mark_text minute)
   stepping_marked steps image is = is.others.others mark_file file_beside ∙ mark.placed is.others.from is.others.was
 
-  stepping_on : (steps : List Step) (image : Files) → IsSteppingOn table steps middle.now.folder image → HasCronMark minute table steps old.now.folder image
+  stepping_on : (steps : List Step) (image : Files) → IsSteppingOn table steps middle.now.directory image → HasCronMark minute table steps old.now.directory image
   stepping_on steps image is =
-      let at : IsMarking minute old.now.folder is.others.from =
-      changes_end (IsMarking minute old.now.folder) old middle marks (not_marked_yet minute old.now.folder) is.others.from is.others.was in
+      let at : IsMarking minute old.now.directory is.others.from =
+      changes_end (IsMarking minute old.now.directory) old middle marks (not_marked_yet minute old.now.directory) is.others.from is.others.was in
       record {
         come = record {
           marked = stepping_marked steps image is;
@@ -126,12 +126,12 @@ module _ (minute : ℕ) (table : JobTable) (kept : Kept) (old middle : World) (c
     all = submissions table.last jobs
 
     -- an image of the end
-    at_end : ChangesFiles (IsSteppingOn table all middle.now.folder) middle new → (image : Files) → IsImage new.now.folder image → IsSteppingOn table all middle.now.folder image
-    at_end files = changes_end (IsSteppingOn table all middle.now.folder) middle new files (λ image is. record {
+    at_end : ChangesFiles (IsSteppingOn table all middle.now.directory) middle new → (image : Files) → IsImage new.now.directory image → IsSteppingOn table all middle.now.directory image
+    at_end files = changes_end (IsSteppingOn table all middle.now.directory) middle new files (λ image is. record {
       prefix = [];
       is_prefix = (all, refl);
       shows = current_then.shows image is;
-      others = left_alone IsSpoolName middle.now.folder image is;
+      others = left_alone IsSpoolName middle.now.directory image is;
     })
 
     ends_by : (result : Result (Unit {0}) StoreFault) → IsPartOf jobs part result → SubmissionsLeave table jobs part middle new result → MarkingEnds minute table jobs part old new result
@@ -150,7 +150,7 @@ module _ (minute : ℕ) (table : JobTable) (kept : Kept) (old middle : World) (c
     pub submitted_marked : (result : Result (Unit {0}) StoreFault) → IsPartOf jobs part result → SubmissionsLeave table jobs part middle new result →
         MarkingLeaves minute table jobs part old new result
     submitted_marked result is_part leaves = record {
-      files = changes_on (IsMarking minute old.now.folder) (IsSteppingOn table all middle.now.folder) (IsOnTheMark minute table all old.now.folder) old middle new
-          (marking_on minute table old.now.folder current.shows all) (λ image is. inr (stepping_on all image is)) marks leaves.files;
+      files = changes_on (IsMarking minute old.now.directory) (IsSteppingOn table all middle.now.directory) (IsOnTheMark minute table all old.now.directory) old middle new
+          (marking_on minute table old.now.directory current.shows all) (λ image is. inr (stepping_on all image is)) marks leaves.files;
       ends = ends_by result is_part leaves;
     }

@@ -5,29 +5,29 @@ use Rattle.std.proofs.lemmas.Int.{ints}
 use Rattle.std.specs.FinMap as finite
 use Rattle.std.proofs.lemmas.List.Elements.{All-cons, All-nil}
 use Rattle.std.proofs.lemmas.List.Kept.{AllPairs-cons}
-use Rattle.clock_range.specs.declared.range.TheConstants.{LAST_SECOND}
-use Rattle.clock_range.specs.ClockRange.{IsClockMinute, IsClockSecond, minute_at}
-use Rattle.hex_digits.specs.Digits.{SpellsNumber, digits_of}
-use Rattle.hex_digits.proofs.DigitLemmas.{one_number}
-use Rattle.hex_digits.proofs.EightDigits.{digits_spelled}
-use Rattle.host_calls.specs.Folder.{Files, Folder, IsImage}
+use Rattle.host_calls.specs.declared.clock_seconds.TheConstants.{LAST_SECOND}
+use Rattle.host_calls.specs.ClockRange.{IsClockMinute, IsClockSecond, minute_at}
+use Rattle.text_reader.specs.HexDigits.{SpellsNumber, digits_of}
+use Rattle.text_reader.proofs.DigitLemmas.{one_number}
+use Rattle.text_reader.proofs.EightDigits.{digits_spelled}
+use Rattle.host_calls.specs.Directory.{Files, Directory, IsImage}
 use Rattle.host_calls.specs.World.{World, reading}
-use Rattle.host_calls.proofs.FolderLemmas.{reading_is_image}
+use Rattle.host_calls.proofs.DirectoryLemmas.{reading_is_image}
 use Rattle.whole_file.proofs.ChangesJoined.{changes_end, left_alone}
 use Rattle.spool_model.specs.declared.job.Job.{Job}
 use Rattle.spool_model.specs.JobTable.{JobTable}
-use Rattle.cron_mark.specs.Mark.{IsMark, IsMarkText, cron_mark_text}
-use Rattle.cron_mark.specs.Names.{mark_file}
+use Rattle.cron_session.specs.Mark.{IsMark, IsMarkText, cron_mark_text}
+use Rattle.cron_session.specs.MarkNames.{mark_file}
 use Rattle.cron_session.proofs.NameLemmas.{file_beside, temp_apart}
 use Rattle.cron_session.specs.declared.report.CronEnd.{CronEnd}
 use Rattle.cron_session.specs.declared.report.CronEnd.TheVariants.{Done, Busy, FileFault, Damaged, QueueFull, NumbersUsedUp, Memory}
-use Rattle.cron_session.specs.Leaving.{CronLeaves, IsCronIdle, IsSpoolOrTemp, IsCronStopped, IsUnmarked, IsCronDone}
+use Rattle.cron_session.specs.SessionOutcome.{CronLeaves, IsCronIdle, IsSpoolOrTemp, IsCronStopped, IsUnmarked, IsCronDone}
 use Rattle.cron_session.specs.Minutes.{AcceptApart, Beside, CronEvent, CronPassFrom, CronPassed, CutOff, Ended, HasNothingNew, KeepsMark, MayAcceptAt, NoMinuteComesTwice, PassesAs, SetsMark, SubmitsNothing}
 use Rattle.cron_session.specs.Steps.{AreToSubmit, Cron, IsMarkedBefore, minute_of, next_numbers}
 
--- each image of the folder has the mark of this minute or of a later one
-record HasMarkFrom (minute : ℕ) (folder : Folder) : Type 0 where
-  marked_in : (image : Files) → IsImage folder image → (marked : ℕ) × (minute ≤ marked) × IsMark (finite.get image mark_file) (Some marked)
+-- each image of the directory has the mark of this minute or of a later one
+record HasMarkFrom (minute : ℕ) (directory : Directory) : Type 0 where
+  marked_in : (image : Files) → IsImage directory image → (marked : ℕ) × (minute ≤ marked) × IsMark (finite.get image mark_file) (Some marked)
 
 -- A mark is of one minute.
 
@@ -65,7 +65,7 @@ minute_of_clock cron second = minute_in_range cron.now second
 -- an image has nothing new, or jobs were to be submitted and it has the mark of the minute
 abbrev pub IsMarkedSo : Cron → World → Files → Type 0
 IsMarkedSo cron old image =
-    HasNothingNew old.now.folder image
+    HasNothingNew old.now.directory image
     ⊎ ((table : JobTable) × (jobs : List Job) × AreToSubmit cron (reading old) table jobs
     × (finite.get image mark_file ≡ Some (cron_mark_text (minute_of cron))))
 
@@ -74,25 +74,25 @@ mark_is_beside : ¬ (IsSpoolOrTemp mark_file)
 mark_is_beside (inl spool) = file_beside spool
 mark_is_beside (inr temp) = temp_apart (sym temp)
 
-pub unmarked_has_nothing_new : (old : World) (image : Files) → IsUnmarked old.now.folder image → HasNothingNew old.now.folder image
+pub unmarked_has_nothing_new : (old : World) (image : Files) → IsUnmarked old.now.directory image → HasNothingNew old.now.directory image
 unmarked_has_nothing_new old image is =
     record { from = is.alone.from; was = is.alone.was; mark = is.alone.others mark_file mark_is_beside; shows = is.same }
 
-idle_submits_nothing : (numbers : List ℕ) (old new : World) → IsCronIdle numbers old new → SubmitsNothing old.now.folder new.now.folder
+idle_submits_nothing : (numbers : List ℕ) (old new : World) → IsCronIdle numbers old new → SubmitsNothing old.now.directory new.now.directory
 idle_submits_nothing numbers old new idle image is =
-    unmarked_has_nothing_new old image (changes_end (IsUnmarked old.now.folder) old new idle.unmarked
-    (λ files was. record { alone = left_alone IsSpoolOrTemp old.now.folder files was; same = refl }) image is)
+    unmarked_has_nothing_new old image (changes_end (IsUnmarked old.now.directory) old new idle.unmarked
+    (λ files was. record { alone = left_alone IsSpoolOrTemp old.now.directory files was; same = refl }) image is)
 
 whole_sets : (cron : Cron) (numbers : List ℕ) (old new : World) → IsCronDone cron numbers old new → SetsMark cron old new
 whole_sets cron numbers old new whole = record {
   table = whole.table;
   jobs = whole.jobs;
   are = whole.submits.are;
-  marked = λ image is. (whole.stands image is).0;
+  marked = λ image is. (whole.holds image is).0;
 }
 
 stopped_marks : (cron : Cron) (numbers : List ℕ) (old new : World) → IsCronStopped cron numbers old new → (image : Files) →
-    IsImage new.now.folder image → IsMarkedSo cron old image
+    IsImage new.now.directory image → IsMarkedSo cron old image
 stopped_marks cron numbers old new stopped image is = elim (stopped.ends image is) [
   | inl before ↦ inl (unmarked_has_nothing_new old image before.1)
   | inr come ↦ inr (stopped.table, stopped.made ++ (stopped.next ++ stopped.later), stopped.submits.are, come.marked)
@@ -112,7 +112,7 @@ stopped_sets cron numbers old new some stopped = record {
 }
 
 either_marks : (cron : Cron) (numbers : List ℕ) (old new : World) → IsCronIdle numbers old new ⊎ IsCronStopped cron numbers old new →
-    (image : Files) → IsImage new.now.folder image → IsMarkedSo cron old image
+    (image : Files) → IsImage new.now.directory image → IsMarkedSo cron old image
 either_marks cron numbers old new leaves image is = elim leaves [
   | inl idle ↦ inl (idle_submits_nothing numbers old new idle image is)
   | inr stopped ↦ stopped_marks cron numbers old new stopped image is
@@ -127,13 +127,13 @@ either_sets cron numbers old new some leaves = elim leaves [
 
 -- each image of a session's end is marked so
 session_marks : (cron : Cron) (numbers : List ℕ) (old new : World) (end : CronEnd) → CronLeaves cron numbers old new end →
-    (image : Files) → IsImage new.now.folder image → IsMarkedSo cron old image
+    (image : Files) → IsImage new.now.directory image → IsMarkedSo cron old image
 session_marks cron numbers old new Done leaves image is = elim leaves [
   | inl quiet ↦ inl (idle_submits_nothing numbers old new quiet.idle image is)
-  | inr whole ↦ inr (whole.table, whole.jobs, whole.submits.are, (whole.stands image is).0)
+  | inr whole ↦ inr (whole.table, whole.jobs, whole.submits.are, (whole.holds image is).0)
 ]
 session_marks cron numbers old new Busy leaves image is =
-    inl (record { from = image; was = subst (λ (world : World). IsImage world.now.folder image) leaves.1 is; mark = refl; shows = refl })
+    inl (record { from = image; was = subst (λ (world : World). IsImage world.now.directory image) leaves.1 is; mark = refl; shows = refl })
 session_marks cron numbers old new (Damaged damage) leaves image is = inl (idle_submits_nothing numbers old new leaves.1 image is)
 session_marks cron numbers old new QueueFull leaves image is = inl (idle_submits_nothing numbers old new leaves.1 image is)
 session_marks cron numbers old new NumbersUsedUp leaves image is = inl (idle_submits_nothing numbers old new leaves.1 image is)
@@ -157,16 +157,16 @@ session_sets cron numbers old new Memory some leaves = either_sets cron numbers 
 -- Over events.
 
 -- jobs are to be submitted at a later minute than that of each mark
-later_than : (minute : ℕ) (cron : Cron) (old : World) (table : JobTable) (jobs : List Job) → HasMarkFrom minute old.now.folder →
+later_than : (minute : ℕ) (cron : Cron) (old : World) (table : JobTable) (jobs : List Job) → HasMarkFrom minute old.now.directory →
     AreToSubmit cron (reading old) table jobs → minute < minute_of cron
 later_than minute cron old table jobs from are =
-    let here = from.marked_in (reading old) (reading_is_image old.now.folder) in
+    let here = from.marked_in (reading old) (reading_is_image old.now.directory) in
     let marked : are.marked ≡ Some here.0 = one_mark (finite.get (reading old) mark_file) here.0 are.marked here.2 are.mark in
     let before : here.0 < minute_of cron = subst (IsMarkedBefore (minute_of cron)) marked are.before in
     let least : minute ≤ here.0 = here.1 in
     omega arith
 
-keeps_from : (minute : ℕ) (old new : Folder) → HasMarkFrom minute old → KeepsMark old new → HasMarkFrom minute new
+keeps_from : (minute : ℕ) (old new : Directory) → HasMarkFrom minute old → KeepsMark old new → HasMarkFrom minute new
 keeps_from minute old new from keeps = record {
   marked_in = λ image is.
       let before = keeps image is in
@@ -175,13 +175,13 @@ keeps_from minute old new from keeps = record {
 }
 
 -- where nothing was submitted, the mark stays
-nothing_keeps : (old new : Folder) → SubmitsNothing old new → KeepsMark old new
+nothing_keeps : (old new : Directory) → SubmitsNothing old new → KeepsMark old new
 nothing_keeps old new nothing image is =
     let before : HasNothingNew old image = nothing image is in
     (before.from, before.was, before.mark)
 
 -- where it was set, each image has the mark of its minute
-sets_from : (cron : Cron) (old new : World) → IsClockSecond cron.now → SetsMark cron old new → HasMarkFrom (minute_of cron) new.now.folder
+sets_from : (cron : Cron) (old new : World) → IsClockSecond cron.now → SetsMark cron old new → HasMarkFrom (minute_of cron) new.now.directory
 sets_from cron old new second sets = record {
   marked_in = λ image is. (
     minute_of cron,
@@ -190,8 +190,8 @@ sets_from cron old new second sets = record {
   );
 }
 
-lower_from : (low high : ℕ) (folder : Folder) → low ≤ high → HasMarkFrom high folder → HasMarkFrom low folder
-lower_from low high folder less from = record {
+lower_from : (low high : ℕ) (directory : Directory) → low ≤ high → HasMarkFrom high directory → HasMarkFrom low directory
+lower_from low high directory less from = record {
   marked_in = λ image is.
       let here = from.marked_in image is in
       let least : low ≤ here.0 = let most : high ≤ here.0 = here.1 in omega arith in
@@ -199,8 +199,8 @@ lower_from low high folder less from = record {
 }
 
 -- an event keeps marks from a minute on
-event_from : (minute : ℕ) (event : CronEvent) (old new : World) → HasMarkFrom minute old.now.folder → PassesAs event old new →
-    HasMarkFrom minute new.now.folder
+event_from : (minute : ℕ) (event : CronEvent) (old new : World) → HasMarkFrom minute old.now.directory → PassesAs event old new →
+    HasMarkFrom minute new.now.directory
 event_from minute (Ended cron end numbers) old new from passes = record {
   marked_in = λ image is. elim (session_marks cron numbers old new end passes.1 image is) [
     | inl before ↦
@@ -215,10 +215,10 @@ event_from minute (Ended cron end numbers) old new from passes = record {
 event_from minute (CutOff cron true) old new from passes =
     let later : minute < minute_of cron = later_than minute cron old passes.1.table passes.1.jobs from passes.1.are in
     let least : minute ≤ minute_of cron = omega arith in
-    lower_from minute (minute_of cron) new.now.folder least (sets_from cron old new passes.0 passes.1)
+    lower_from minute (minute_of cron) new.now.directory least (sets_from cron old new passes.0 passes.1)
 event_from minute (CutOff cron false) old new from passes =
-    keeps_from minute old.now.folder new.now.folder from (nothing_keeps old.now.folder new.now.folder passes)
-event_from minute Beside old new from passes = keeps_from minute old.now.folder new.now.folder from passes
+    keeps_from minute old.now.directory new.now.directory from (nothing_keeps old.now.directory new.now.directory passes)
+event_from minute Beside old new from passes = keeps_from minute old.now.directory new.now.directory from passes
 
 -- an event that may accept at a minute has set its mark
 accepts_sets : (minute : ℕ) (event : CronEvent) (old new : World) → MayAcceptAt minute event → PassesAs event old new →
@@ -230,7 +230,7 @@ accepts_sets minute (CutOff cron false) old new accepts passes = absurd (let imp
 accepts_sets minute Beside old new accepts passes = absurd accepts
 
 -- and none does where each image has a mark from the minute on
-none_accepts : (minute : ℕ) (events : List CronPassed) (old : World) → HasMarkFrom minute old.now.folder → CronPassFrom old events →
+none_accepts : (minute : ℕ) (events : List CronPassed) (old : World) → HasMarkFrom minute old.now.directory → CronPassFrom old events →
     All (λ passed. MayAcceptAt minute passed.event → ⊥) events
 none_accepts minute [] old from pass = All-nil (λ passed. MayAcceptAt minute passed.event → ⊥)
 none_accepts minute (passed ∷ later) old from pass =
@@ -248,7 +248,7 @@ no_minute_comes_twice (passed ∷ later) old pass =
     AllPairs-cons AcceptApart passed later
     (λ k d within minute first second.
     let set = accepts_sets minute passed.event old passed.left first pass.0 in
-    let from : HasMarkFrom minute passed.left.now.folder =
-    subst (λ least. HasMarkFrom least passed.left.now.folder) set.1 (sets_from set.0 old passed.left set.2 set.3) in
+    let from : HasMarkFrom minute passed.left.now.directory =
+    subst (λ least. HasMarkFrom least passed.left.now.directory) set.1 (sets_from set.0 old passed.left set.2 set.3) in
     none_accepts minute later passed.left from pass.1 k d within second)
     (no_minute_comes_twice later passed.left pass.1)

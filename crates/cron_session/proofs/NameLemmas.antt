@@ -4,7 +4,7 @@ use Rattle.spool_shows.proofs.NameLemmas.{differ_by}
 use Rattle.spool_store.specs.Beside.{IsNoSpoolName}
 use Rattle.spool_store.proofs.BesideLemmas.{AreBeside, beside_by, two_beside}
 use Rattle.whole_file.specs.Others.{IsEither}
-use Rattle.cron_mark.specs.Names.{mark_file, mark_temp}
+use Rattle.cron_session.specs.MarkNames.{mark_file, mark_temp}
 
 pub file_beside : IsNoSpoolName mark_file
 file_beside = beside_by mark_file refl refl refl refl

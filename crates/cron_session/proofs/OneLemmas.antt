@@ -3,7 +3,7 @@ use Rattle.std.proofs.Common.{◌≡◌, ◌∙◌, ◌+◌, ℕ, Bool, true, fa
 use Rattle.std.specs.Prelude.{IfErr, IfOk, IsErrAnd, IsSome, Result, Ok, Err, is_some}
 use Rattle.host_calls.specs.Session.{CallsInside, IsInside, Session}
 use Rattle.host_calls.specs.World.{World}
-use Rattle.host_session.proofs.SessionLemmas.{stays_inside}
+use Rattle.host_calls.proofs.SessionLemmas.{stays_inside}
 use Rattle.job_script.specs.Check.{IsUsableContext}
 use Rattle.job_script.specs.declared.context.Context.{Context}
 use Rattle.job_script.specs.HeaderIn.{header_in}
@@ -14,7 +14,7 @@ use Rattle.spool_model.specs.Steps.{after_steps, submission}
 use Rattle.host_calls.specs.declared.store_fault.StoreFault.{StoreFault}
 use Rattle.host_calls.specs.declared.store_fault.StoreFault.TheVariants.{Damaged, FileFault, Memory, NumbersUsedUp, QueueFull}
 use Rattle.host_calls.specs.StoreFaults.{IsOfStep}
-use Rattle.spool_store.specs.Submitting.{HasRoom, IsAnswerOn, job_of_script, kept_after_submission}
+use Rattle.spool_store.specs.Submission.{HasRoom, IsAnswerOn, job_of_script, kept_after_submission}
 use Rattle.spool_store.proofs.WrittenJobs.{header_of_written, job_of_written}
 use Rattle.step_runs.specs.Calls.{IsSteppingOn, StoreCall}
 use Rattle.step_runs.specs.Current.{IsCurrent, Kept}
@@ -22,7 +22,7 @@ use Rattle.step_runs.specs.WithoutScripts.{job_without_script}
 use Rattle.whole_file.proofs.OthersLemmas.{changes_none}
 use Rattle.cron_session.specs.declared.session.TheConstants.{CRON_QUEUE}
 use Rattle.cron_session.specs.inside.Due.{cron_job}
-use Rattle.cron_session.specs.inside.Submitting.{SubmitsOne}
+use Rattle.cron_session.specs.inside.Submissions.{SubmitsOne}
 use Rattle.cron_session.proofs.CauseLemmas.{memory_is_none}
 
 -- a fault that is handed on
@@ -40,7 +40,7 @@ no_memory tells session world kept job inside = record {
   number = tt;
   table_is = tt;
   files = λ known table current. record {
-    files = changes_none (IsSteppingOn table (submission table job) world.now.folder) world;
+    files = changes_none (IsSteppingOn table (submission table job) world.now.directory) world;
     current = tt;
     others = tt;
   };
@@ -49,7 +49,7 @@ no_memory tells session world kept job inside = record {
 pub script_has_header : (context : Context) (commands script : List ℕ) → IsUsableContext context → script ≡ text_for context false commands → IsSome (header_in script)
 script_has_header context commands script fit is = ap is_some (ap header_in is ∙ header_of_written context false commands fit.user)
 
--- there is room, so neither that nor numbers may be wanting
+-- there is room, so neither that nor numbers may be missing
 of_step : (table : JobTable) (result : Result (Kept × ℕ) StoreFault) → HasRoom table → IsAnswerOn table result → IfErr result IsOfStep
 of_step table (Ok stored) room answer = tt
 of_step table (Err FileFault) room answer = tt
@@ -65,7 +65,7 @@ next_number table (Err fault) answer = tt
 pub submitted_one : (tells : Bool) (before after : Session) (old new : World) (kept : Kept) (context : Context) (minute : ℕ) (commands script : List ℕ) (result : Result (Kept × ℕ) StoreFault) →
     IsUsableContext context → script ≡ text_for context false commands → HasRoom kept.table → CallsInside FileFault before after result → IsAnswerOn kept.table result →
     IfOk result (λ stored. stored.0.table ≡ after_steps kept.table (submission kept.table (job_without_script (job_of_script CRON_QUEUE minute script)))) →
-    (tells ≡ true → (table : JobTable) → IsCurrent kept old.now.folder table → StoreCall table (submission table (job_of_script CRON_QUEUE minute script)) old new (kept_after_submission result)) →
+    (tells ≡ true → (table : JobTable) → IsCurrent kept old.now.directory table → StoreCall table (submission table (job_of_script CRON_QUEUE minute script)) old new (kept_after_submission result)) →
     SubmitsOne tells before after old new kept (cron_job context minute commands) result
 submitted_one tells before after old new kept context minute commands script result fit is room inside answer table_is files = record {
   inside = inside;

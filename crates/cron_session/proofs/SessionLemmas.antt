@@ -9,23 +9,23 @@ use Rattle.host_calls.specs.declared.fault.EnterFault.TheVariants as entry
 use Rattle.host_calls.specs.declared.host.Host.{Ghosts}
 use Rattle.host_calls.specs.Session.{Session}
 use Rattle.host_calls.specs.World.{World}
-use Rattle.host_session.specs.Work.{Calls, EndsSession, IsWorkUndone}
-use Rattle.host_session.proofs.SessionLemmas.{counts_on}
+use Rattle.host_calls.specs.SessionWork.{Calls, EndsSession, IsWorkUndone}
+use Rattle.host_calls.proofs.SessionLemmas.{counts_on}
 use Rattle.host_calls.specs.declared.store_fault.StoreFault.{StoreFault}
 use Rattle.host_calls.specs.declared.store_fault.StoreFault.TheVariants as fault
 use Rattle.whole_file.proofs.OthersLemmas.{changes_none}
 use Rattle.cron_session.specs.declared.report.CronEnd.{CronEnd}
 use Rattle.cron_session.specs.declared.report.CronEnd.TheVariants.{Busy, FileFault, Memory}
-use Rattle.cron_session.specs.Leaving.{CronAt, CronLeaves, CronsTo, IsCronIdle, IsUnmarked}
+use Rattle.cron_session.specs.SessionOutcome.{CronAt, CronLeaves, CronsTo, IsCronIdle, IsUnmarked}
 use Rattle.cron_session.specs.Steps.{Cron}
-use Rattle.cron_session.specs.inside.Working.{CronWorks, cron_end_after, end_of_cron_session}
+use Rattle.cron_session.specs.inside.SessionWork.{CronWorks, cron_end_after, end_of_cron_session}
 
 abbrev stand : Session → World → CronAt
 stand session world = record { session = session; world = world }
 
 -- where nothing changed, nothing was submitted
 idle_same : (old new : World) → new ≡ old → IsCronIdle [] old new
-idle_same old new same = subst (IsCronIdle [] old) (sym same) (record { none = refl; unmarked = changes_none (IsUnmarked old.now.folder) old })
+idle_same old new same = subst (IsCronIdle [] old) (sym same) (record { none = refl; unmarked = changes_none (IsUnmarked old.now.directory) old })
 
 not_busy : (result : Result (Unit {0}) StoreFault) → cron_end_after result ≡ Busy → ⊥
 not_busy (Ok done) is = cc

@@ -1,7 +1,7 @@
 -- Jobs that are submitted one after another.
 use Rattle.std.proofs.Common.{◌≡◌, ◌∙◌, ◌≤◌, ◌+◌, ℕ, List, [], ◌∷◌, ◌++◌, length, refl, sym, ap, subst, arith}
 use Rattle.std.specs.Prelude.{suc, zero}
-use Rattle.host_calls.specs.Folder.{Files, Folder, IsImage}
+use Rattle.host_calls.specs.Directory.{Files, Directory, IsImage}
 use Rattle.host_calls.specs.World.{World}
 use Rattle.spool_model.specs.declared.job.Job.{Job}
 use Rattle.spool_model.specs.declared.number.TheConstants.{LAST_NUMBER}
@@ -63,13 +63,13 @@ submissions_legal table (job ∷ later) sound few =
 -- What the first jobs leave.
 
 pub record SoFar (table : JobTable) (jobs first : List Job) (store : Kept) (old here : World) : Type 0 where
-  pub files : ChangesFiles (IsSteppingOn table (submissions table.last jobs) old.now.folder) old here
-  pub current : IsCurrent store here.now.folder (after_steps table (submissions table.last first))
-  pub others : KeepsOthers old.now.folder here.now.folder
+  pub files : ChangesFiles (IsSteppingOn table (submissions table.last jobs) old.now.directory) old here
+  pub current : IsCurrent store here.now.directory (after_steps table (submissions table.last first))
+  pub others : KeepsOthers old.now.directory here.now.directory
 
 -- an image of the start is on the way of any steps
-stands : (table : JobTable) (steps : List Step) (start : Folder) → EachShows start table → (image : Files) → IsImage start image → IsSteppingOn table steps start image
-stands table steps start shows image is = record {
+holds : (table : JobTable) (steps : List Step) (start : Directory) → EachShows start table → (image : Files) → IsImage start image → IsSteppingOn table steps start image
+holds table steps start shows image is = record {
   prefix = [];
   is_prefix = (steps, refl);
   shows = shows image is;
@@ -77,15 +77,15 @@ stands table steps start shows image is = record {
 }
 
 -- no job was submitted yet
-pub none_so_far : (table : JobTable) (jobs : List Job) (kept : Kept) (old : World) → IsCurrent kept old.now.folder table → SoFar table jobs [] kept old old
+pub none_so_far : (table : JobTable) (jobs : List Job) (kept : Kept) (old : World) → IsCurrent kept old.now.directory table → SoFar table jobs [] kept old old
 none_so_far table jobs kept old current = record {
-  files = changes_none (IsSteppingOn table (submissions table.last jobs) old.now.folder) old;
+  files = changes_none (IsSteppingOn table (submissions table.last jobs) old.now.directory) old;
   current = current;
   others = λ name other. refl;
 }
 
 module _ (table : JobTable) (jobs first : List Job) (job : Job) (later : List Job) (are : jobs ≡ first ++ job ∷ later) (kept store : Kept) (old here : World)
-    (was : IsCurrent kept old.now.folder table) (so_far : SoFar table jobs first store old here) where
+    (was : IsCurrent kept old.now.directory table) (so_far : SoFar table jobs first store old here) where
   abbrev all : List Step
   all = submissions table.last jobs
 
@@ -110,27 +110,27 @@ module _ (table : JobTable) (jobs first : List Job) (job : Job) (later : List Jo
       ∙ ap (λ (number : ℕ). before ++ Draw ∷ Accept (number + 1) job ∷ rest) (sym (last_after table first))
 
   -- an image on the way of the next job's steps
-  along : (image : Files) → IsSteppingOn middle one here.now.folder image → IsSteppingOn table all old.now.folder image
+  along : (image : Files) → IsSteppingOn middle one here.now.directory image → IsSteppingOn table all old.now.directory image
   along image is = record {
     prefix = before ++ is.prefix;
     is_prefix = subst (IsPrefix (before ++ is.prefix)) (sym all_are)
         (prefix_after before is.prefix (one ++ rest) (prefix_longer is.prefix one rest is.is_prefix));
     shows = subst (Shows image) (sym (steps_then table before is.prefix)) is.shows;
-    others = others_then old.now.folder here.now.folder image (λ from at.
-        (changes_end (IsSteppingOn table all old.now.folder) old here so_far.files (stands table all old.now.folder was.shows) from at).others) is.others;
+    others = others_then old.now.directory here.now.directory image (λ from at.
+        (changes_end (IsSteppingOn table all old.now.directory) old here so_far.files (holds table all old.now.directory was.shows) from at).others) is.others;
   }
 
-  module _ (new : World) (call : ChangesFiles (IsSteppingOn middle one here.now.folder) here new) where
+  module _ (new : World) (call : ChangesFiles (IsSteppingOn middle one here.now.directory) here new) where
     -- whatever came of the next job
-    pub files_then : ChangesFiles (IsSteppingOn table all old.now.folder) old new
+    pub files_then : ChangesFiles (IsSteppingOn table all old.now.directory) old new
     files_then =
-        changes_on (IsSteppingOn table all old.now.folder) (IsSteppingOn middle one here.now.folder) (IsSteppingOn table all old.now.folder)
+        changes_on (IsSteppingOn table all old.now.directory) (IsSteppingOn middle one here.now.directory) (IsSteppingOn table all old.now.directory)
         old here new (λ image is. is) along so_far.files call
 
     -- it was stopped there
-    pub stopped_there : (image : Files) → IsImage new.now.folder image → ShowsAfterPrefix table before (submissions (table.last + length first) (job ∷ [])) image
+    pub stopped_there : (image : Files) → IsImage new.now.directory image → ShowsAfterPrefix table before (submissions (table.last + length first) (job ∷ [])) image
     stopped_there image is =
-        let at = changes_end (IsSteppingOn middle one here.now.folder) here new call (stands middle one here.now.folder so_far.current.shows) image is in
+        let at = changes_end (IsSteppingOn middle one here.now.directory) here new call (holds middle one here.now.directory so_far.current.shows) image is in
         record {
           prefix = at.prefix;
           is_prefix = subst (IsPrefix at.prefix) one_is at.is_prefix;
@@ -138,10 +138,10 @@ module _ (table : JobTable) (jobs first : List Job) (job : Job) (later : List Jo
         }
 
     -- it was submitted
-    pub one_more : (next : Kept) → IsCurrent next new.now.folder (after_steps middle one) → KeepsOthers here.now.folder new.now.folder → SoFar table jobs (first ++ job ∷ []) next old new
+    pub one_more : (next : Kept) → IsCurrent next new.now.directory (after_steps middle one) → KeepsOthers here.now.directory new.now.directory → SoFar table jobs (first ++ job ∷ []) next old new
     one_more next current others = record {
       files = files_then;
-      current = subst (IsCurrent next new.now.folder)
+      current = subst (IsCurrent next new.now.directory)
           (ap (after_steps middle) one_is ∙ sym (steps_then table before (submissions (table.last + length first) (job ∷ [])))
           ∙ ap (after_steps table) (sym (submissions-append table.last first (job ∷ [])))) current;
       others = λ name other. others name other ∙ so_far.others name other;

@@ -7,10 +7,10 @@ use Rattle.std.proofs.lemmas.Bool.Decides.{nat_tests}
 use Rattle.std.proofs.lemmas.List.{length-map}
 use Rattle.at_words.specs.Numbers.{are_distinct}
 use Rattle.host_calls.specs.declared.damage.Damage.{Damage}
-use Rattle.host_calls.specs.Folder.{Files, Folder, IsImage}
+use Rattle.host_calls.specs.Directory.{Files, Directory, IsImage}
 use Rattle.host_calls.specs.Session.{IsInside, Session}
 use Rattle.host_calls.specs.World.{World, reading}
-use Rattle.host_session.proofs.SessionLemmas.{stays_inside}
+use Rattle.host_calls.proofs.SessionLemmas.{stays_inside}
 use Rattle.spool_model.specs.declared.job.Job.{Job}
 use Rattle.spool_model.specs.declared.number.TheConstants.{LAST_NUMBER}
 use Rattle.spool_model.specs.JobTable.{JobTable}
@@ -19,7 +19,7 @@ use Rattle.spool_shows.proofs.SoundTables.{shown_tables_are_sound}
 use Rattle.host_calls.specs.declared.store_fault.StoreFault.{StoreFault}
 use Rattle.host_calls.specs.declared.store_fault.StoreFault.TheVariants as fault
 use Rattle.spool_model.specs.declared.row.TheConstants.{MAX_LIVE}
-use Rattle.spool_store.specs.Recovering.{IsRecovered}
+use Rattle.spool_store.specs.Recovery.{IsRecovered}
 use Rattle.step_runs.specs.Calls.{ShowsAsBefore}
 use Rattle.step_runs.specs.Current.{IsCurrent, Kept}
 use Rattle.step_runs.specs.WithoutScripts.{without_scripts}
@@ -27,18 +27,18 @@ use Rattle.step_runs.proofs.ListLemmas.{lists_as_on_the_table}
 use Rattle.whole_file.specs.Others.{ChangesFiles}
 use Rattle.whole_file.proofs.ChangesJoined.{changes_end, changes_on, changes_weaker}
 use Rattle.civil_minute.specs.declared.zone.Zone.{Zone}
-use Rattle.clock_range.specs.ClockRange.{minute_at}
+use Rattle.host_calls.specs.ClockRange.{minute_at}
 use Rattle.cron_text.specs.declared.entry.CronEntry.{CronEntry}
-use Rattle.cron_mark.specs.Mark.{IsMark, IsMarkDamage}
-use Rattle.cron_mark.specs.Names.{mark_file, mark_temp}
+use Rattle.cron_session.specs.Mark.{IsMark, IsMarkDamage}
+use Rattle.cron_session.specs.MarkNames.{mark_file, mark_temp}
 use Rattle.cron_session.specs.declared.report.CronEnd.TheVariants.{Damaged}
-use Rattle.cron_session.specs.Leaving.{CronLeaves, IsCronIdle, IsOnTheMark, HasNothingToDo, IsCronStopped, IsUnmarked, IsCronDone, Submits}
+use Rattle.cron_session.specs.SessionOutcome.{CronLeaves, IsCronIdle, IsOnTheMark, HasNothingToDo, IsCronStopped, IsUnmarked, IsCronDone, Submits}
 use Rattle.cron_session.specs.Steps.{AreDueJobs, AreToSubmit, Cron, HasRoomFor, IsMarkedBefore, minute_of, next_numbers, submissions}
 use Rattle.cron_session.specs.inside.Due.{AreDueAt, cron_jobs}
-use Rattle.cron_session.specs.inside.Marking.{MarksAndSubmits}
-use Rattle.whole_file.specs.Replacing.{IsCertainAt}
+use Rattle.cron_session.specs.inside.MarkThenSubmit.{MarksAndSubmits}
+use Rattle.whole_file.specs.TempFiles.{IsDurableAt}
 use Rattle.cron_session.specs.inside.Room.{IsRoomFault}
-use Rattle.cron_session.specs.inside.Working.{DueLeaves, AreSubmissionsBegun, AreJobsRefused, IsCronUntouched, SubmitsDue, cron_end_after}
+use Rattle.cron_session.specs.inside.SessionWork.{DueLeaves, AreSubmissionsBegun, AreJobsRefused, IsCronUntouched, SubmitsDue, cron_end_after}
 use Rattle.cron_session.proofs.CauseLemmas.{full_is_none, memory_is_none, used_up_is_none}
 use Rattle.cron_session.proofs.DueLemmas.{jobs_are_due}
 use Rattle.cron_session.proofs.NameLemmas.{file_beside, temp_beside}
@@ -120,7 +120,7 @@ module _ (tells : Bool) (session : Session) (old : World) (kept : Kept) (cron : 
     inside = record { stays = stays_inside session inside; cause = record { later = omega arith; rose = λ bad. absurd (memory_is_none bad) } };
     unread = tt;
     distinct = distinct;
-    leaves = λ known table current certain. inl untouched;
+    leaves = λ known table current durable. inl untouched;
   }
 
   module _ (due : List (List ℕ)) (are : AreDueAt cron.entries (minute_of cron) cron.zone due) where
@@ -137,13 +137,13 @@ module _ (tells : Bool) (session : Session) (old : World) (kept : Kept) (cron : 
       inside = record { stays = stays_inside session inside; cause = record { later = omega arith; rose = λ bad. absurd (full_is_none bad) } };
       unread = none;
       distinct = distinct;
-      leaves = λ known table current certain. refused_on fault.QueueFull because table current.without_scripts_is;
+      leaves = λ known table current durable. refused_on fault.QueueFull because table current.without_scripts_is;
     }
     room_refused fault.NumbersUsedUp because = record {
       inside = record { stays = stays_inside session inside; cause = record { later = omega arith; rose = λ bad. absurd (used_up_is_none bad) } };
       unread = none;
       distinct = distinct;
-      leaves = λ known table current certain. refused_on fault.NumbersUsedUp because table current.without_scripts_is;
+      leaves = λ known table current durable. refused_on fault.NumbersUsedUp because table current.without_scripts_is;
     }
     room_refused fault.Memory because = due_wants
     room_refused _ because = absurd because
@@ -152,8 +152,8 @@ module _ (tells : Bool) (session : Session) (old : World) (kept : Kept) (cron : 
 module _ (tells : Bool) (before after : Session) (old new : World) (kept : Kept) (cron : Cron) (due : List (List ℕ)) (are : AreDueAt cron.entries (minute_of cron) cron.zone due)
     (room : HasRoomFor kept.table (length due)) (was numbers : List ℕ) (none : was ≡ []) where
   begun : (result : Result (Unit {0}) StoreFault) → MarksAndSubmits tells before after old new kept (minute_of cron) (jobs_due cron due are) was numbers result →
-      tells ≡ true → (table : JobTable) → IsCurrent kept old.now.folder table → IsCertainAt mark_temp old.now.folder → AreSubmissionsBegun cron table numbers old new result
-  begun result marks known table current certain = record {
+      tells ≡ true → (table : JobTable) → IsCurrent kept old.now.directory table → IsDurableAt mark_temp old.now.directory → AreSubmissionsBegun cron table numbers old new result
+  begun result marks known table current durable = record {
     jobs = jobs_due cron due are;
     are = due_jobs cron due are;
     room = record {
@@ -166,7 +166,7 @@ module _ (tells : Bool) (before after : Session) (old new : World) (kept : Kept)
     is_part = marks.is_part;
     written = marks.written ∙ ap (λ (l : List ℕ). l ++ next_numbers kept.table.last (length marks.part.made)) none
         ∙ ap (λ (last : ℕ). next_numbers last (length marks.part.made)) (same_last kept table current.without_scripts_is);
-    leaves = marks.leaves known table current certain;
+    leaves = marks.leaves known table current durable;
   }
 
   numbers_distinct : (result : Result (Unit {0}) StoreFault) → MarksAndSubmits tells before after old new kept (minute_of cron) (jobs_due cron due are) was numbers result → are_distinct numbers ≡ true
@@ -181,43 +181,43 @@ module _ (tells : Bool) (before after : Session) (old new : World) (kept : Kept)
   due_submitted (Err fault.FileFault) marks =
       record { inside = marks.inside; unread = tt; distinct = numbers_distinct (Err fault.FileFault) marks; leaves = begun (Err fault.FileFault) marks }
   due_submitted (Err fault.Memory) marks =
-      record { inside = marks.inside; unread = tt; distinct = numbers_distinct (Err fault.Memory) marks; leaves = λ known table current certain. inr (begun (Err fault.Memory) marks known table current certain) }
+      record { inside = marks.inside; unread = tt; distinct = numbers_distinct (Err fault.Memory) marks; leaves = λ known table current durable. inr (begun (Err fault.Memory) marks known table current durable) }
   due_submitted _ marks = absurd marks.faults
 
 -- Since the start.
 
-as_before : (start : Folder) (image : Files) → IsImage start image → ShowsAsBefore start image
+as_before : (start : Directory) (image : Files) → IsImage start image → ShowsAsBefore start image
 as_before start image is = record { from = image; was = is; same = refl; others = λ name other. refl }
 
 -- an image on the way of a recovery
-recovery_is_unmarked : (start : Folder) (image : Files) → ShowsAsBefore start image → IsUnmarked start image
+recovery_is_unmarked : (start : Directory) (image : Files) → ShowsAsBefore start image → IsUnmarked start image
 recovery_is_unmarked start image is = record {
   alone = record { from = is.from; was = is.was; others = λ name other. is.others name (λ spool. other (inl spool)) };
   same = is.same;
 }
 
-pub idle_after : (old middle : World) (numbers : List ℕ) → numbers ≡ [] → ChangesFiles (ShowsAsBefore old.now.folder) old middle → IsCronIdle numbers old middle
+pub idle_after : (old middle : World) (numbers : List ℕ) → numbers ≡ [] → ChangesFiles (ShowsAsBefore old.now.directory) old middle → IsCronIdle numbers old middle
 idle_after old middle numbers none recovery = record {
   none = none;
-  unmarked = changes_weaker (ShowsAsBefore old.now.folder) (IsUnmarked old.now.folder) old middle (recovery_is_unmarked old.now.folder) recovery;
+  unmarked = changes_weaker (ShowsAsBefore old.now.directory) (IsUnmarked old.now.directory) old middle (recovery_is_unmarked old.now.directory) recovery;
 }
 
--- the file that is being made is certain after a recovery
-pub temp_certain : (old middle : World) (kept : Kept) → IsRecovered old.now.folder middle.now.folder kept → IsCertainAt mark_temp middle.now.folder
-temp_certain old middle kept recovered image is = recovered.certain_others image is mark_temp temp_beside
+-- the file that is being made is durable after a recovery
+pub temp_durable : (old middle : World) (kept : Kept) → IsRecovered old.now.directory middle.now.directory kept → IsDurableAt mark_temp middle.now.directory
+temp_durable old middle kept recovered image is = recovered.durable_others image is mark_temp temp_beside
 
-module _ (cron : Cron) (old middle : World) (kept : Kept) (recovery : ChangesFiles (ShowsAsBefore old.now.folder) old middle)
-    (recovered : IsRecovered old.now.folder middle.now.folder kept) where
+module _ (cron : Cron) (old middle : World) (kept : Kept) (recovery : ChangesFiles (ShowsAsBefore old.now.directory) old middle)
+    (recovered : IsRecovered old.now.directory middle.now.directory kept) where
   -- the file of the mark reads as before
   pub mark_reads_on : finite.get (reading middle) mark_file ≡ finite.get (reading old) mark_file
   mark_reads_on = recovered.others mark_file file_beside
 
-  since : (image : Files) → IsImage middle.now.folder image → ShowsAsBefore old.now.folder image
-  since = changes_end (ShowsAsBefore old.now.folder) old middle recovery (as_before old.now.folder)
+  since : (image : Files) → IsImage middle.now.directory image → ShowsAsBefore old.now.directory image
+  since = changes_end (ShowsAsBefore old.now.directory) old middle recovery (as_before old.now.directory)
 
-  unmarked_since : (image : Files) → IsUnmarked middle.now.folder image → IsUnmarked old.now.folder image
+  unmarked_since : (image : Files) → IsUnmarked middle.now.directory image → IsUnmarked old.now.directory image
   unmarked_since image is =
-      let from : ShowsAsBefore old.now.folder is.alone.from = since is.alone.from is.alone.was in
+      let from : ShowsAsBefore old.now.directory is.alone.from = since is.alone.from is.alone.was in
       record {
         alone = record {
           from = from.from;
@@ -227,11 +227,11 @@ module _ (cron : Cron) (old middle : World) (kept : Kept) (recovery : ChangesFil
         same = is.same ∙ from.same;
       }
 
-  on_mark_since : (minute : ℕ) (table : JobTable) (jobs : List Job) (image : Files) → IsOnTheMark minute table (submissions table.last jobs) middle.now.folder image →
-      IsOnTheMark minute table (submissions table.last jobs) old.now.folder image
+  on_mark_since : (minute : ℕ) (table : JobTable) (jobs : List Job) (image : Files) → IsOnTheMark minute table (submissions table.last jobs) middle.now.directory image →
+      IsOnTheMark minute table (submissions table.last jobs) old.now.directory image
   on_mark_since minute table jobs image (inl is) = inl (unmarked_since image is)
   on_mark_since minute table jobs image (inr is) =
-      let from : ShowsAsBefore old.now.folder is.others.from = since is.others.from is.others.was in
+      let from : ShowsAsBefore old.now.directory is.others.from = since is.others.from is.others.was in
       inr (record {
         come = is.come;
         others = record {
@@ -281,9 +281,9 @@ module _ (cron : Cron) (old middle : World) (kept : Kept) (recovery : ChangesFil
         are = to_submit is.jobs is.are;
         room = is.room;
         legal = submissions_legal recovered.table is.jobs (shown_tables_are_sound (reading old) recovered.table recovered.shown) is.room.numbers;
-        files = changes_on (ShowsAsBefore old.now.folder) (IsOnTheMark (minute_of cron) recovered.table (submissions recovered.table.last is.jobs) middle.now.folder)
-            (IsOnTheMark (minute_of cron) recovered.table (submissions recovered.table.last is.jobs) old.now.folder) old middle new
-            (λ image at. inl (recovery_is_unmarked old.now.folder image at)) (on_mark_since (minute_of cron) recovered.table is.jobs) recovery is.leaves.files;
+        files = changes_on (ShowsAsBefore old.now.directory) (IsOnTheMark (minute_of cron) recovered.table (submissions recovered.table.last is.jobs) middle.now.directory)
+            (IsOnTheMark (minute_of cron) recovered.table (submissions recovered.table.last is.jobs) old.now.directory) old middle new
+            (λ image at. inl (recovery_is_unmarked old.now.directory image at)) (on_mark_since (minute_of cron) recovered.table is.jobs) recovery is.leaves.files;
       }
 
       whole_after : AreSubmissionsBegun cron recovered.table numbers middle new (Ok tt) → IsCronDone cron numbers old new
@@ -291,7 +291,7 @@ module _ (cron : Cron) (old middle : World) (kept : Kept) (recovery : ChangesFil
         table = recovered.table;
         jobs = is.jobs;
         submits = submits_all (Ok tt) is;
-        stands = is.leaves.ends.0;
+        holds = is.leaves.ends.0;
         others = λ name other. is.leaves.ends.1 name other ∙ recovered.others name (λ spool. other (inl spool));
         numbers_are = is.written ∙ ap (λ (made : List Job). next_numbers recovered.table.last (length made)) is.is_part.all;
       }

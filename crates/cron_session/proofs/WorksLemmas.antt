@@ -8,24 +8,24 @@ use Rattle.host_calls.specs.declared.damage.Damage.{Damage}
 use Rattle.host_calls.specs.Damages.{IfDamaged}
 use Rattle.host_calls.specs.Session.{CallsInside, Session}
 use Rattle.host_calls.specs.World.{World, reading}
-use Rattle.host_session.proofs.SessionLemmas.{counts_on}
+use Rattle.host_calls.proofs.SessionLemmas.{counts_on}
 use Rattle.host_calls.specs.declared.store_fault.StoreFault.{StoreFault}
 use Rattle.host_calls.specs.declared.store_fault.StoreFault.TheVariants as fault
 use Rattle.host_calls.specs.StoreFaults.{IsReadingFault}
-use Rattle.spool_store.specs.Recovering.{IsRecovered, Recovered}
+use Rattle.spool_store.specs.Recovery.{IsRecovered, Recovered}
 use Rattle.step_runs.specs.Calls.{ShowsAsBefore}
 use Rattle.step_runs.specs.Current.{Kept}
 use Rattle.whole_file.specs.Others.{ChangesFiles}
-use Rattle.clock_range.specs.ClockRange.{minute_at}
-use Rattle.cron_mark.specs.Mark.{IsMark, IsMarkDamage}
-use Rattle.cron_mark.specs.Names.{mark_file, mark_temp}
-use Rattle.cron_session.specs.Leaving.{CronAt, CronLeaves}
+use Rattle.host_calls.specs.ClockRange.{minute_at}
+use Rattle.cron_session.specs.Mark.{IsMark, IsMarkDamage}
+use Rattle.cron_session.specs.MarkNames.{mark_file, mark_temp}
+use Rattle.cron_session.specs.SessionOutcome.{CronAt, CronLeaves}
 use Rattle.cron_session.specs.Steps.{Cron, IsMarkedBefore, minute_of}
-use Rattle.whole_file.specs.Replacing.{IsCertainAt}
+use Rattle.whole_file.specs.TempFiles.{IsDurableAt}
 use Rattle.cron_session.specs.declared.report.CronEnd.TheVariants.{Damaged}
-use Rattle.cron_session.specs.inside.Working.{SubmitsDue, CronWorks, cron_end_by, is_since}
+use Rattle.cron_session.specs.inside.SessionWork.{SubmitsDue, CronWorks, cron_end_by, is_since}
 use Rattle.cron_session.proofs.CauseLemmas.{ok_is_none, same_fault}
-use Rattle.cron_session.proofs.WorkLemmas.{due_leaves, idle_after, mark_damaged, quiet_after, temp_certain}
+use Rattle.cron_session.proofs.WorkLemmas.{due_leaves, idle_after, mark_damaged, quiet_after, temp_durable}
 
 -- The mark against the minute.
 
@@ -77,7 +77,7 @@ same_cause before after of inside =
 module _ (tells : Bool) (cron : Cron) (before between : Session) (old middle : World) (numbers : List ℕ) (none : numbers ≡ []) where
   -- it ends by a fault of reading, and nothing was done
   by_fault : (after : Session) (of : StoreFault) → IsReadingFault of → CallsInside fault.FileFault before after (fails_with of) →
-      (tells ≡ true → ChangesFiles (ShowsAsBefore old.now.folder) old middle) →
+      (tells ≡ true → ChangesFiles (ShowsAsBefore old.now.directory) old middle) →
       ((damage : Damage) → of ≡ fault.Damaged damage → tells ≡ true → CronLeaves cron numbers old middle (Damaged damage)) →
       CronWorks tells cron (record { session = before; world = old }) (record { session = after; world = middle }) numbers (Err of)
   by_fault after fault.FileFault reads inside recovery damaged =
@@ -90,24 +90,24 @@ module _ (tells : Bool) (cron : Cron) (before between : Session) (old middle : W
 
   -- The recovery failed.
   pub not_recovered : (of : StoreFault) → IsReadingFault of → CallsInside {T = Kept} fault.FileFault before between (Err of) →
-      (tells ≡ true → ChangesFiles (ShowsAsBefore old.now.folder) old middle) → (tells ≡ true → Recovered old.now.folder middle.now.folder (Err of)) →
+      (tells ≡ true → ChangesFiles (ShowsAsBefore old.now.directory) old middle) → (tells ≡ true → Recovered old.now.directory middle.now.directory (Err of)) →
       CronWorks tells cron (record { session = before; world = old }) (record { session = between; world = middle }) numbers (Err of)
   not_recovered of reads inside recovery recovered =
       by_fault between of reads (same_cause before between of inside) recovery
       (λ damage is known.
-      (inl (subst (λ (one : StoreFault). Recovered old.now.folder middle.now.folder (Err one)) is (recovered known)), idle_after old middle numbers none (recovery known)))
+      (inl (subst (λ (one : StoreFault). Recovered old.now.directory middle.now.directory (Err one)) is (recovered known)), idle_after old middle numbers none (recovery known)))
 
-  module _ (kept : Kept) (entered : CallsInside {T = Kept} fault.FileFault before between (Ok kept)) (recovery : tells ≡ true → ChangesFiles (ShowsAsBefore old.now.folder) old middle)
-      (recovered : tells ≡ true → IsRecovered old.now.folder middle.now.folder kept) (stood : Session) (read : World) (looks : tells ≡ true → read ≡ middle) where
+  module _ (kept : Kept) (entered : CallsInside {T = Kept} fault.FileFault before between (Ok kept)) (recovery : tells ≡ true → ChangesFiles (ShowsAsBefore old.now.directory) old middle)
+      (recovered : tells ≡ true → IsRecovered old.now.directory middle.now.directory kept) (stood : Session) (read : World) (looks : tells ≡ true → read ≡ middle) where
     -- as the mark was read, nothing changed
-    recovery_on : tells ≡ true → ChangesFiles (ShowsAsBefore old.now.folder) old read
-    recovery_on known = subst (ChangesFiles (ShowsAsBefore old.now.folder) old) (sym (looks known)) (recovery known)
+    recovery_on : tells ≡ true → ChangesFiles (ShowsAsBefore old.now.directory) old read
+    recovery_on known = subst (ChangesFiles (ShowsAsBefore old.now.directory) old) (sym (looks known)) (recovery known)
 
-    recovered_on : tells ≡ true → IsRecovered old.now.folder read.now.folder kept
-    recovered_on known = subst (λ (world : World). IsRecovered old.now.folder world.now.folder kept) (sym (looks known)) (recovered known)
+    recovered_on : tells ≡ true → IsRecovered old.now.directory read.now.directory kept
+    recovered_on known = subst (λ (world : World). IsRecovered old.now.directory world.now.directory kept) (sym (looks known)) (recovered known)
 
-    certain_on : tells ≡ true → IsCertainAt mark_temp read.now.folder
-    certain_on known = temp_certain old read kept (recovered_on known)
+    durable_on : tells ≡ true → IsDurableAt mark_temp read.now.directory
+    durable_on known = temp_durable old read kept (recovered_on known)
 
     -- The mark couldn't be read, or is damaged.
     pub not_read : (of : StoreFault) → IsReadingFault of → CallsInside {T = Option ℕ} fault.FileFault between stood (Err of) →
@@ -154,5 +154,5 @@ module _ (tells : Bool) (cron : Cron) (before between : Session) (old middle : W
         distinct = due.distinct;
         leaves = λ known.
             due_leaves cron old read kept (recovery_on known) (recovered_on known) marked (mark_on known) early is new result
-            (due.leaves known (recovered_on known).table (recovered_on known).current (certain_on known));
+            (due.leaves known (recovered_on known).table (recovered_on known).current (durable_on known));
       }

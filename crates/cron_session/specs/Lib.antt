@@ -1,4 +1,6 @@
-pub mod Leaving
+pub mod Mark
+pub mod MarkNames
 pub mod Minutes
+pub mod SessionOutcome
 pub mod Steps
 pub mod inside

@@ -2,32 +2,32 @@
 -- other sessions, crashes), no two sessions accept a job at one minute.
 use Rattle.std.specs.Prelude.{◌≡◌, ◌≢◌, ◌⊎◌, ◌++◌, [], ◌∷◌, ℕ, Bool, true, false, List, Some, AllPairs}
 use Rattle.std.specs.FinMap as finite
-use Rattle.clock_range.specs.ClockRange.{IsClockSecond}
-use Rattle.host_calls.specs.Folder.{Files, Folder, IsImage}
+use Rattle.host_calls.specs.ClockRange.{IsClockSecond}
+use Rattle.host_calls.specs.Directory.{Files, Directory, IsImage}
 use Rattle.host_calls.specs.World.{AnyMoment, Moment, World, moments, reading}
 use Rattle.spool_model.specs.declared.job.Job.{Job}
 use Rattle.spool_model.specs.JobTable.{JobTable}
 use Rattle.spool_shows.specs.Shown.{shown_by}
-use Rattle.cron_mark.specs.Mark.{cron_mark_text}
-use Rattle.cron_mark.specs.Names.{mark_file}
+use Rattle.cron_session.specs.Mark.{cron_mark_text}
+use Rattle.cron_session.specs.MarkNames.{mark_file}
 use Rattle.cron_session.specs.declared.report.CronEnd.{CronEnd}
-use Rattle.cron_session.specs.Leaving.{CronLeaves}
+use Rattle.cron_session.specs.SessionOutcome.{CronLeaves}
 use Rattle.cron_session.specs.Steps.{AreToSubmit, Cron, minute_of}
 
 -- each image has the mark that an image of before has
-abbrev pub KeepsMark : Folder → Folder → Type 0
+abbrev pub KeepsMark : Directory → Directory → Type 0
 KeepsMark old new = (image : Files) → IsImage new image →
     (from : Files) × IsImage old from × (finite.get image mark_file ≡ finite.get from mark_file)
 
 -- The image has the mark that an image of before has, and shows what that one shows.
-pub record HasNothingNew (start : Folder) (image : Files) : Type 0 where
+pub record HasNothingNew (start : Directory) (image : Files) : Type 0 where
   pub from : Files
   pub was : IsImage start from
   pub mark : finite.get image mark_file ≡ finite.get from mark_file
   pub shows : shown_by image ≡ shown_by from
 
 -- no minute was marked, and no job submitted: so of each image
-abbrev pub SubmitsNothing : Folder → Folder → Type 0
+abbrev pub SubmitsNothing : Directory → Directory → Type 0
 SubmitsNothing old new = (image : Files) → IsImage new image → HasNothingNew old image
 
 -- jobs were to be submitted, and each image has the mark of the minute
@@ -35,7 +35,7 @@ pub record SetsMark (cron : Cron) (old new : World) : Type 0 where
   pub table : JobTable
   pub jobs : List Job
   pub are : AreToSubmit cron (reading old) table jobs
-  pub marked : (image : Files) → IsImage new.now.folder image →
+  pub marked : (image : Files) → IsImage new.now.directory image →
       finite.get image mark_file ≡ Some (cron_mark_text (minute_of cron))
 
 -- What passes: a session that ended so, and accepted these numbers; one that a crash cut off, after the mark was set or
@@ -49,18 +49,18 @@ pub data CronEvent : Type 0 where
 abbrev pub PassesAs : CronEvent → World → World → Type 0
 PassesAs (Ended cron end numbers) old new = IsClockSecond cron.now × CronLeaves cron numbers old new end
 PassesAs (CutOff cron true) old new = IsClockSecond cron.now × SetsMark cron old new
-PassesAs (CutOff cron false) old new = SubmitsNothing old.now.folder new.now.folder
-PassesAs Beside old new = KeepsMark old.now.folder new.now.folder
+PassesAs (CutOff cron false) old new = SubmitsNothing old.now.directory new.now.directory
+PassesAs Beside old new = KeepsMark old.now.directory new.now.directory
 
--- A crash at a moment of a session, after which the folder has one image of that moment alone.
+-- A crash at a moment of a session, after which the directory has one image of that moment alone.
 pub record IsCrashOfSession (old during new : World) : Type 0 where
   pub more : List Moment
   pub run : moments during ≡ more ++ moments old
   pub at : Moment
   pub is_one : AnyMoment (λ moment. moment ≡ at) (more ++ old.now ∷ [])
   pub image : Files
-  pub was : IsImage at.folder image
-  pub only : (other : Files) → IsImage new.now.folder other → other ≡ image
+  pub was : IsImage at.directory image
+  pub only : (other : Files) → IsImage new.now.directory other → other ≡ image
 
 -- a session in which there was a crash passes as one that was cut off, after the mark was set or before
 abbrev pub CutSessionsPass : Type 0

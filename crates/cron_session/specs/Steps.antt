@@ -3,8 +3,8 @@
 use Rattle.std.specs.Prelude.{◌≡◌, ◌+◌, ◌*◌, ◌≤◌, ◌<◌, [], ◌∷◌, ℕ, ℤ, pos, zero, suc, false, List, Option, Some, None, length, map}
 use Rattle.std.specs.FinMap as finite
 use Rattle.std.specs.List.{filter}
-use Rattle.clock_range.specs.ClockRange.{minute_at}
-use Rattle.host_calls.specs.Folder.{Files}
+use Rattle.host_calls.specs.ClockRange.{minute_at}
+use Rattle.host_calls.specs.Directory.{Files}
 use Rattle.spool_model.specs.declared.job.Job.{Job}
 use Rattle.spool_model.specs.declared.number.TheConstants.{LAST_NUMBER}
 use Rattle.spool_model.specs.declared.step.Step.{Step}
@@ -21,8 +21,8 @@ use Rattle.civil_minute.specs.declared.zone.Zone.{Zone}
 use Rattle.cron_text.specs.declared.entry.CronEntry.{CronEntry}
 use Rattle.cron_minutes.specs.Commands.{commands}
 use Rattle.cron_minutes.specs.Due.{is_entry_due}
-use Rattle.cron_mark.specs.Mark.{IsMark}
-use Rattle.cron_mark.specs.Names.{mark_file}
+use Rattle.cron_session.specs.Mark.{IsMark}
+use Rattle.cron_session.specs.MarkNames.{mark_file}
 use Rattle.cron_session.specs.declared.session.TheConstants.{CRON_QUEUE}
 
 -- a session: what its jobs take over, the zone in which the entries are meant, the entries, and the second

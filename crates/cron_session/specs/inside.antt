@@ -1,5 +1,5 @@
 pub mod Due
-pub mod Marking
+pub mod MarkThenSubmit
 pub mod Room
-pub mod Submitting
-pub mod Working
+pub mod SessionWork
+pub mod Submissions

@@ -1,7 +1,7 @@
 //! What is due of a crontab.
 ghost use Rattle.std.specs.Prelude.{◌≡◌, ◌∷◌, ◌++◌, [], IfOk, OnOk};
 ghost use Rattle.civil_minute.specs.Zone.{IsReadable};
-ghost use Rattle.clock_range.specs.ClockRange.{IsClockMinute};
+ghost use Rattle.host_calls.specs.ClockRange.{IsClockMinute};
 ghost use Rattle.cron_session.specs.inside.Due.{AreDueAt, due_commands};
 
 use civil_minute::{CivilMinute, Zone, civil_of};

@@ -9,7 +9,7 @@ pub enum CronEnd {
     Done,
     /// Another program holds the lock.
     Busy,
-    /// A call on the spool folder failed.
+    /// A call on the spool directory failed.
     FileFault,
     /// The store is damaged, or the mark.
     Damaged(Damage),

@@ -1,21 +1,19 @@
 //! A session of a crontab.
 ghost use Rattle.std.specs.Prelude.{◌≡◌, ◌≤◌, ◌<◌, All, None, length};
 ghost use Rattle.civil_minute.specs.Zone.{IsReadable};
-ghost use Rattle.clock_range.specs.ClockRange.{IsClockSecond};
+ghost use Rattle.host_calls.specs.ClockRange.{IsClockSecond};
 ghost use Rattle.cron_text.specs.declared.crontab.TheConstants.{MAX_CRONTAB};
 ghost use Rattle.host_calls.specs.Session.{IsOutside};
 ghost use Rattle.job_script.specs.Check.{first_fault};
-ghost use Rattle.cron_session.specs.Leaving.{CronsTo};
-ghost use Rattle.cron_session.specs.inside.Working.{cron_end_after, end_of_cron_session};
+ghost use Rattle.cron_session.specs.SessionOutcome.{CronsTo};
+ghost use Rattle.cron_session.specs.inside.SessionWork.{cron_end_after, end_of_cron_session};
 
 use crate::work::cron_session_body;
 use crate::{CronEnd, CronReport};
 use at_words::Numbers;
 use civil_minute::Zone;
-use clock_range::minute_at;
 use cron_text::Entries;
-use host_calls::{EnterFault, Host};
-use host_session::in_session;
+use host_calls::{EnterFault, Host, in_session, minute_at};
 use job_script::{Context, checks_are_tests};
 use spool_store::StoreFault;
 use std::alloc::Global;

@@ -1,16 +1,16 @@
 //! The jobs of a minute are submitted, one after another.
 ghost use Rattle.std.specs.Prelude.{◌≡◌, ◌+◌, ◌≤◌, ◌<◌, All, IfErr, IfOk, IsTrue, false, length, vec_capacity, vec_len};
-ghost use Rattle.clock_range.specs.ClockRange.{IsClockMinute};
+ghost use Rattle.host_calls.specs.ClockRange.{IsClockMinute};
 ghost use Rattle.host_calls.specs.Session.{IsInside};
 ghost use Rattle.job_script.specs.Check.{IsUsableContext};
 ghost use Rattle.job_script.specs.JobText.{text_for};
 ghost use Rattle.job_script.specs.declared.writer.TheConstants.{MAX_COMMANDS};
 ghost use Rattle.spool_model.specs.JobTable.{JobTable};
-ghost use Rattle.spool_store.specs.Submitting.{HasRoom};
+ghost use Rattle.spool_store.specs.Submission.{HasRoom};
 ghost use Rattle.step_runs.specs.Current.{IsCurrent};
 ghost use Rattle.cron_session.specs.Steps.{HasRoomFor};
 ghost use Rattle.cron_session.specs.inside.Due.{cron_job, cron_jobs};
-ghost use Rattle.cron_session.specs.inside.Submitting.{SubmitsAll, SubmitsOne};
+ghost use Rattle.cron_session.specs.inside.Submissions.{SubmitsAll, SubmitsOne};
 
 use crate::CRON_QUEUE;
 use host_calls::{Bytes, Host};
@@ -35,7 +35,7 @@ pub(crate) fn submit_all<H: Host>(
     requires short { All (λ commands. length commands ≤ MAX_COMMANDS) due.now }
     requires room { HasRoomFor store.table (length due.now) }
     requires numbers { vec_len numbers.old + length due.now ≤ vec_capacity numbers.old }
-    requires current { IsTrue H.tells → (table : JobTable) × IsCurrent store (H.world host.old).now.folder table }
+    requires current { IsTrue H.tells → (table : JobTable) × IsCurrent store (H.world host.old).now.directory table }
     ensures { SubmitsAll H.tells (H.session host.old) (H.session host.new) (H.world host.old) (H.world host.new)
         store (cron_jobs context.now minute due.now) numbers.old.items numbers.new.items result }
 {
@@ -70,7 +70,7 @@ fn submit_entry<H: Host>(
     requires minute { IsClockMinute minute }
     requires short { length commands.now ≤ MAX_COMMANDS }
     requires room { HasRoom store.table }
-    requires current { IsTrue H.tells → (table : JobTable) × IsCurrent store (H.world host.old).now.folder table }
+    requires current { IsTrue H.tells → (table : JobTable) × IsCurrent store (H.world host.old).now.directory table }
     ensures { SubmitsOne H.tells (H.session host.old) (H.session host.new) (H.world host.old) (H.world host.new)
         store (cron_job context.now minute commands.now) result }
 {
@@ -78,7 +78,7 @@ fn submit_entry<H: Host>(
     store.submit(alloc, host, CRON_QUEUE, minute, script.as_slice())
 }
 
-// The script of the commands. Nothing but want of memory is answered.
+// The script of the commands. Nothing but an out-of-memory error is answered.
 fn script_of(alloc: Global, context: &Context, commands: &[u8]) -> Result<Bytes, StoreFault>
     requires fit { IsUsableContext context.now }
     requires umask { context.now.umask < 512 }

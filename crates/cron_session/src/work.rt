@@ -1,21 +1,21 @@
 //! The work of a session within it.
 ghost use Rattle.std.specs.Prelude.{◌≡◌, ◌≤◌, ◌<◌, ◌+◌, [], ℤ, All, IsTrue, length, vec_capacity, vec_len};
-ghost use Rattle.clock_range.specs.ClockRange.{IsClockMinute, minute_at};
+ghost use Rattle.host_calls.specs.ClockRange.{IsClockMinute, minute_at};
 ghost use Rattle.civil_minute.specs.Zone.{IsReadable};
-ghost use Rattle.cron_mark.specs.Names.{mark_temp};
+ghost use Rattle.cron_session.specs.MarkNames.{mark_temp};
 ghost use Rattle.cron_text.specs.declared.crontab.TheConstants.{MAX_CRONTAB};
 ghost use Rattle.host_calls.specs.Session.{IsInside};
 ghost use Rattle.job_script.specs.Check.{IsUsableContext};
 ghost use Rattle.spool_model.specs.JobTable.{JobTable};
 ghost use Rattle.step_runs.specs.Current.{IsCurrent};
-ghost use Rattle.whole_file.specs.Replacing.{IsCertainAt};
-ghost use Rattle.cron_session.specs.inside.Working.{SubmitsDue, CronWorks, is_since};
+ghost use Rattle.whole_file.specs.TempFiles.{IsDurableAt};
+ghost use Rattle.cron_session.specs.inside.SessionWork.{SubmitsDue, CronWorks, is_since};
 
 use crate::due::due_at;
 use crate::mark::mark_and_submit;
+use crate::read_cron_mark;
 use crate::room::check_room_and_numbers;
 use civil_minute::Zone;
-use cron_mark::read_cron_mark;
 use cron_text::CronEntry;
 use host_calls::Host;
 use job_script::Context;
@@ -80,8 +80,8 @@ fn submit_due<H: Host>(
     requires minute { IsClockMinute minute }
     requires commands { All (λ entry. length entry.command ≤ MAX_CRONTAB) entries.now }
     requires none { numbers.old.items ≡ [] }
-    requires current { IsTrue H.tells → (table : JobTable) × IsCurrent store (H.world host.old).now.folder table }
-    requires certain { IsTrue H.tells → IsCertainAt mark_temp (H.world host.old).now.folder }
+    requires current { IsTrue H.tells → (table : JobTable) × IsCurrent store (H.world host.old).now.directory table }
+    requires durable { IsTrue H.tells → IsDurableAt mark_temp (H.world host.old).now.directory }
     ensures { (now : ℤ) → minute ≡ minute_at now
         → SubmitsDue H.tells (H.session host.old) (H.session host.new) (H.world host.old) (H.world host.new)
         store (record { context = context.now; zone = zone.now; entries = entries.now; now = now }) numbers.new.items result }

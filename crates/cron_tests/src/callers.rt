@@ -1,11 +1,11 @@
 //! Callers of the program.
 ghost use Rattle.std.specs.Prelude.{◌<◌, IfOk};
 
-use cause_output::Caller;
 use civil_minute::Zone;
 use host_calls::Text;
 use job_script::{Context, Variables};
 use std::alloc::{AllocError, Global};
+use tool_output::Caller;
 
 /// This user at this directory, with a variable of so many bytes.
 pub fn caller(

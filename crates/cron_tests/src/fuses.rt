@@ -4,7 +4,7 @@ ghost use Rattle.memory_host.specs.Host.{memory_session};
 
 use crate::callers::ann;
 use crate::outside::{Answered, FIRST, NOW, SECOND, has, run, sessions_of, spool};
-use cron_mark::mark_name;
+use cron_session::mark_name;
 use host_calls::Name;
 use memory_host::{MemoryHost, Plan};
 use std::alloc::{AllocError, Global};

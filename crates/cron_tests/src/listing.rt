@@ -1,6 +1,6 @@
 //! Listings of next minutes.
 use civil_minute::zone_of;
-use cron_listing::next_program;
+use cron_turn::next_program;
 use memory_host::{ListReadings, MemoryInputs, MemorySink};
 use std::alloc::{AllocError, Global};
 use std::test::Fail;

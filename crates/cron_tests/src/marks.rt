@@ -1,5 +1,5 @@
 //! Texts of marks, and the places of those that are damaged.
-use cron_mark::{cron_mark_text, minute_in};
+use cron_session::{cron_mark_text, minute_in};
 use std::test::Fail;
 
 #[test]

@@ -4,12 +4,12 @@ ghost use Rattle.host_calls.specs.Session.{IsOutside};
 ghost use Rattle.memory_host.specs.Host.{memory_session};
 
 use crate::callers::ann;
-use cause_output::Caller;
-use cron_mark::mark_name;
+use cron_session::mark_name;
 use cron_turn::cron_program;
 use host_calls::{Bytes, Name};
 use memory_host::{Files, ListReadings, MemoryHost, MemoryInputs, MemorySink, Plan};
 use std::alloc::{AllocError, Global};
+use tool_output::Caller;
 
 /// Fri Jan 24 2025, 08:30:00 UTC.
 pub const NOW: i64 = 1_737_707_400;

@@ -1,7 +1,7 @@
 //! The next minutes of entries, by a search of each minute with the rule of POSIX in another language.
 use crate::readings::read;
 use civil_minute::{Zone, zone_of};
-use cron_schedule::next_due;
+use cron_turn::next_due;
 use std::test::Fail;
 
 // Fri Jan 24 2025, 08:30 UTC.

@@ -8,7 +8,7 @@ use Rattle.cron_text.specs.declared.entry.CronEntry.{CronEntry}
 use Rattle.cron_text.specs.declared.entry.Schedule.{Schedule}
 use Rattle.cron_text.specs.declared.field.Field.{Field}
 use Rattle.cron_text.specs.inside.Reader.{number_before, digit_before, span_in, element_in, elements_in, field_in, first_in, schedule_in, line_in, entry_in_line, cron_entry, with_line}
-use Rattle.text_reader.specs.Reading.{two_digits_in}
+use Rattle.text_reader.specs.ReadResult.{two_digits_in}
 use Rattle.text_reader.proofs.OptionLemmas.{and_then_some, cond_some}
 use Rattle.cron_text.proofs.OptionLemmas.{cond_either, map_some}
 use Rattle.cron_text.proofs.FieldLemmas.{field_complete}

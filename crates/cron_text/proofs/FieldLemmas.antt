@@ -8,7 +8,7 @@ use Rattle.cron_text.specs.Field.{SpellElements, SpellsField, AreBitsOf, asteris
 use Rattle.cron_text.specs.declared.field.Field.{Field}
 use Rattle.cron_text.specs.inside.Reader.{number_before, digit_before, span_in, element_in, elements_in, elements_of, field_in, bits_between}
 use Rattle.cron_text.proofs.BitLemmas.{with_bits, with_bits-spans, bits_between-span, one_bits}
-use Rattle.text_reader.specs.Reading.{two_digits_in}
+use Rattle.text_reader.specs.ReadResult.{two_digits_in}
 use Rattle.text_reader.proofs.OptionLemmas.{and_then_some}
 use Rattle.cron_text.proofs.OptionLemmas.{cond_either, map_some}
 use Rattle.cron_text.proofs.SpanLemmas.{element_sound, element_complete}

@@ -32,12 +32,12 @@ position-pattern (byte ∷ pattern) blank others whole parted =
     let more = position-pattern pattern blank others both.1 parted in
     rw (first, more) (omega arith)
 
--- one byte more at the beginning
+-- one more byte at the beginning
 prefix-cons : (byte : ℕ) (prefix : List ℕ) (passes : Bool) → is_no_blank byte ≡ passes → IsTrue (has_no_blank prefix) → IsTrue (has_no_blank (cond passes (byte ∷ prefix) []))
 prefix-cons byte prefix true passed each = rw passed each
 prefix-cons byte prefix false failed each = refl
 
--- what stands before the first blank has none
+-- what is before the first blank has none
 prefix-whole : (bytes : List ℕ) → IsTrue (has_no_blank (take_while is_no_blank bytes))
 prefix-whole [] = refl
 prefix-whole (byte ∷ bytes) =

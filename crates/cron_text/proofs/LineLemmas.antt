@@ -23,7 +23,7 @@ lines_in-bad : (entries : List CronEntry) (count : ℕ) (line : List ℕ) (lines
 unfolding lines_in
 lines_in-bad entries count line lines e = rw (e, lines_in) refl
 
--- one line more
+-- one more line
 pub lines-more : (entries : List CronEntry) (count : ℕ) (lines : List (List ℕ)) (place : ℕ) (line : List ℕ) (more : List CronEntry)
     → IsNextOf lines place line → with_line entries line ≡ Some more
     → lines_in entries count (drop place lines) ≡ lines_in more (count + 1) (drop (place + 1) lines)

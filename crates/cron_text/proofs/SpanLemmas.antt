@@ -7,7 +7,7 @@ use Rattle.std.proofs.lemmas.Option.{none-some, same_Some}
 use Rattle.std.specs.Char.{is_ascii_digit}
 use Rattle.cron_text.specs.Field.{SpellsCronNumber, one_digit, two_digits, SpellsSpan, one_number, two_numbers, SpellsElement}
 use Rattle.cron_text.specs.inside.Reader.{number_before, digit_before, range_to, range_from, span_in, element_in}
-use Rattle.text_reader.specs.Reading.{two_digits_in}
+use Rattle.text_reader.specs.ReadResult.{two_digits_in}
 use Rattle.text_reader.proofs.OptionLemmas.{cond_some, and_then_some}
 use Rattle.cron_text.proofs.OptionLemmas.{cond_then, or_some}
 

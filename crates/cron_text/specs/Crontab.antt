@@ -30,7 +30,7 @@ pub record IsFirstBad (text : List ℕ) (number : ℕ) : Type 0 where
   pub is_bad : IsBadLine bad
   pub counted : number ≡ length before + 1
 
--- the fault is the first bad line of the text; want of memory alone is free
+-- the fault is the first bad line of the text; an out-of-memory error alone is free
 abbrev pub IsCause : List ℕ → CronFault → Type 0
 IsCause text (Bad line) = IsFirstBad text line
 IsCause text Memory = Unit {0}

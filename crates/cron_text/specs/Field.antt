@@ -31,7 +31,7 @@ pub record SpellsElement (low high : ℕ) (text : List ℕ) (span : ℕ × ℕ) 
   pub spelled : SpellsSpan text span
   pub within : IsSpanIn low high span
 
--- what stands between the commas of a list, or the ends of the text
+-- what is between the commas of a list, or the ends of the text
 abbrev pub elements_of : List ℕ → List (List ℕ)
 elements_of text = slice_split (λ byte. byte == 44) text
 

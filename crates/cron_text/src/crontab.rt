@@ -39,7 +39,7 @@ impl Entries {
 }
 
 /// Why a text has no entries: its first line that is neither ignored nor an entry, counted from 1,
-/// or want of memory.
+/// or an out-of-memory error.
 #[derive(Clone, Copy, Debug, PartialEq, Eq)]
 pub enum CronFault {
     Bad { line: u32 },

@@ -2,7 +2,7 @@
 ghost use Rattle.std.specs.Prelude.{◌≡◌, ◌<◌, ◌≤◌, IfOk, IfSome, length};
 ghost use Rattle.std.specs.List.{position};
 ghost use Rattle.text_reader.specs.Blanks.{is_blank};
-ghost use Rattle.text_reader.specs.Reading.{read_view};
+ghost use Rattle.text_reader.specs.ReadResult.{read_view};
 ghost use Rattle.cron_text.specs.Entry.{is_command};
 ghost use Rattle.cron_text.specs.inside.Reader as Reader;
 

@@ -1,6 +1,6 @@
 //! The patterns of an entry: an asterisk, or numbers and ranges of numbers between commas.
 ghost use Rattle.std.specs.Prelude.{◌≡◌, ◌<◌, ◌≤◌, IfSome};
-ghost use Rattle.text_reader.specs.Reading.{read_view};
+ghost use Rattle.text_reader.specs.ReadResult.{read_view};
 ghost use Rattle.cron_text.specs.Field.{IsSpanIn};
 ghost use Rattle.cron_text.specs.inside.Reader as Reader;
 

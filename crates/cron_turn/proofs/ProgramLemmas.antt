@@ -1,16 +1,16 @@
 -- What the program does, by its words and its caller, and that its faults come only where their counts rose.
 use Rattle.std.proofs.Common.{◌≡◌, ◌∙◌, ◌≤◌, ℕ, Bool, List, Option, Some, None, Result, Ok, Err, length, refl, sym, subst, inl, inr, arith, le_refl}
-use Rattle.cron_session.specs.Leaving.{CronAt}
-use Rattle.cause_output.specs.Outside.{InputAt, RestsBefore, Telling, WorkAt}
+use Rattle.cron_session.specs.SessionOutcome.{CronAt}
+use Rattle.tool_output.specs.Outside.{InputAt, RestsBefore, Telling, WorkAt}
 use Rattle.at_words.specs.Answers.{Answers}
 use Rattle.at_words.specs.declared.fault.WordsFault.{WordsFault}
 use Rattle.at_words.specs.declared.fault.WordsFault.TheVariants.{Usage, BadQueue, Memory as NoMemory}
-use Rattle.cause_output.specs.Saying.{IsSaid}
+use Rattle.tool_output.specs.SaidLines.{IsSaid}
 use Rattle.civil_minute.specs.declared.zone.Zone.{Zone}
 use Rattle.civil_minute.specs.declared.zone.Zone.TheVariants.{Utc, Rules, Unreadable}
 use Rattle.civil_minute.specs.Zone.{IsReadable}
-use Rattle.cause_output.specs.Causes.{cause_of_script, words_cause}
-use Rattle.cause_output.specs.declared.caller.Caller.{Caller}
+use Rattle.tool_output.specs.Causes.{cause_of_script, words_cause}
+use Rattle.tool_output.specs.declared.caller.Caller.{Caller}
 use Rattle.host_calls.specs.Causes.{Rose}
 use Rattle.job_script.specs.Check.{first_fault}
 use Rattle.job_script.specs.declared.fault.ScriptFault.{ScriptFault}
@@ -19,15 +19,15 @@ use Rattle.listing_text.specs.declared.cause.Cause.{Cause}
 use Rattle.listing_text.specs.declared.cause.Cause.TheVariants as cause
 use Rattle.cron_turn.specs.declared.words.CronRequest.{CronRequest}
 use Rattle.cron_turn.specs.Items.{CronItem, cron_program_name}
-use Rattle.cron_turn.specs.Running.{RunsOrLacksMemory, RunsAsRequested, EndsAfter, HasRisenInTurns, IsEnded, MakesCronSessions, RunsSessions, WorksUnless, all_made, caller_refused, cut_short, next_session, no_session, refused_by, refused_zone}
+use Rattle.cron_turn.specs.CronRuns.{RunsOrLacksMemory, RunsAsRequested, EndsAfter, HasRisenInTurns, IsEnded, MakesCronSessions, RunsSessions, WorksUnless, all_made, caller_refused, cut_short, next_session, no_session, refused_by, refused_zone}
 use Rattle.cron_turn.specs.Sessions.{Stops}
 
 module _ (tells : Telling) (caller : Caller) (old new : WorkAt CronAt) where
-  -- what the words ask for was done
+  -- what the words request was done
   pub does_taken : (asked : Result CronRequest WordsFault) (request : CronRequest) (why : Cause) → Answers asked (Ok request) → WorksUnless (caller_refused caller) tells caller request old new why → RunsOrLacksMemory asked tells caller old new why
   does_taken asked request why answers works = inr (subst (λ of. RunsAsRequested of tells caller old new why) answers works)
 
-  -- they ask for nothing
+  -- they request nothing
   pub does_refused : (asked : Result CronRequest WordsFault) (fault : WordsFault) → Answers asked (Err fault) → new ≡ old → RunsOrLacksMemory asked tells caller old new (words_cause fault)
   does_refused asked Usage answers same = inr (subst (λ of. RunsAsRequested of tells caller old new (words_cause Usage)) answers (refl, same))
   does_refused asked BadQueue answers same = inr (subst (λ of. RunsAsRequested of tells caller old new (words_cause BadQueue)) answers (refl, same))

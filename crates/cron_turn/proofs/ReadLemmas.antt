@@ -1,13 +1,13 @@
 -- The crontab, as its file gives it.
 use Rattle.std.proofs.Common.{ℕ, Bool, List, Err, inl, inr}
-use Rattle.cron_session.specs.Leaving.{CronAt}
-use Rattle.cause_output.specs.Outside.{InputAt, Telling, WorkAt}
+use Rattle.cron_session.specs.SessionOutcome.{CronAt}
+use Rattle.tool_output.specs.Outside.{InputAt, Telling, WorkAt}
 use Rattle.listing_text.specs.declared.cause.Cause.{Cause}
 use Rattle.listing_text.specs.declared.cause.Cause.TheVariants as cause
 use Rattle.listing_text.specs.declared.refusal.Refusal.{Refusal}
 use Rattle.listing_text.specs.declared.refusal.Refusal.TheVariants.{TooLong, BadCrontab}
-use Rattle.cause_output.specs.declared.command_error.CommandError.{CommandError}
-use Rattle.cron_input.specs.Reading.{AsksFile, IsCrontabUnread, ReadsEntries, ReadsFile, StopsText}
+use Rattle.tool_output.specs.declared.command_error.CommandError.{CommandError}
+use Rattle.cron_turn.specs.CrontabFile.{AsksFile, IsCrontabUnread, ReadsEntries, ReadsFile, StopsText}
 use Rattle.cron_turn.specs.Sessions.{StopsAtFile, StopsBefore}
 
 -- the inputs were asked once, whatever came of it

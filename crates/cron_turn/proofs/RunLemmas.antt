@@ -1,18 +1,18 @@
 -- The sessions, one after another.
 use Rattle.std.proofs.Common.{◌≡◌, ◌∙◌, ◌+◌, ◌<◌, ◌++◌, ℕ, Bool, List, [], ◌∷◌, Option, Some, None, length, refl, sym, ap, subst, inr, arith, le_refl, length-append}
-use Rattle.cron_session.specs.Leaving.{CronAt}
-use Rattle.cause_output.specs.Outside.{ClockAt, RestsBefore, RestsOn, Telling, WorkAt}
+use Rattle.cron_session.specs.SessionOutcome.{CronAt}
+use Rattle.tool_output.specs.Outside.{ClockAt, RestsBefore, RestsOn, Telling, WorkAt}
 use Rattle.host_calls.specs.Session.{IsLeft, IsOutside, Session}
-use Rattle.host_session.proofs.SessionLemmas.{counts_on, no_counts}
+use Rattle.host_calls.proofs.SessionLemmas.{counts_on, no_counts}
 use Rattle.listing_text.specs.declared.cause.Cause.{Cause}
 use Rattle.listing_text.specs.declared.cause.Cause.TheVariants.{Done}
-use Rattle.cause_output.specs.declared.caller.Caller.{Caller}
+use Rattle.tool_output.specs.declared.caller.Caller.{Caller}
 use Rattle.cron_turn.specs.declared.words.CronRequest.{CronRequest}
 use Rattle.cron_turn.specs.Items.{CronItem, rest_after_session}
 use Rattle.cron_turn.specs.Outside.{StaysSo}
-use Rattle.cron_turn.specs.Running.{EndsAfter, MakesCronSessions, RunsSessions, all_made, cut_short, next_session, no_session}
+use Rattle.cron_turn.specs.CronRuns.{EndsAfter, MakesCronSessions, RunsSessions, all_made, cut_short, next_session, no_session}
 use Rattle.cron_turn.specs.Sessions.{IsSessionMade, Stops}
-use Rattle.cron_turn.specs.inside.Turning.{ContinuesAfter, HasMadeSessions, SaysSession, Turns}
+use Rattle.cron_turn.specs.inside.NextSession.{ContinuesAfter, HasMadeSessions, SaysSession, Turns}
 
 -- a session that is not on stays so
 pub left_so : (session : Session) → IsOutside session → IsLeft session session
@@ -63,7 +63,7 @@ pub rests_before : (tells : Bool) (rest : Option ℕ) (at : WorkAt CronAt) (new 
     → RestsBefore tells rest at (record { spool = at.spool; clock = new; input = at.input; said = at.said })
 rests_before tells rest at new rests = record { clock = rests; spool = refl; input = refl; said = refl }
 
--- one session more, by whether another may come
+-- one more session, by whether another may come
 pub turned : (tells : Telling) (caller : Caller) (path : List ℕ) (next : Option ℕ) (item : CronItem) (old new : WorkAt CronAt) (result : Option Cause) → IsSessionMade tells caller path item old new
     → SaysSession tells.errors item.end old.said new.said result → next ≡ Some (rest_after_session item.end item.now) → Turns tells caller path next old new result
 turned tells caller path next item old new None made says next_is = record { item = item; made = made; says = says; next_is = next_is }

@@ -1,12 +1,12 @@
 -- The sessions of a crontab (own): the rest after each, and what is said of it.
 use Rattle.std.specs.Prelude.{◌≡◌, ◌≢◌, ◌⊎◌, ◌≤◌, ◌-◌, ◌%◌, ℕ, ℤ, Bool, true, List, codes, unsigned_abs}
 use Rattle.host_calls.specs.Causes.{Rose}
-use Rattle.host_session.specs.declared.rest.TheConstants.{LONGEST_REST, SHORT_REST}
+use Rattle.host_calls.specs.declared.rest.TheConstants.{LONGEST_REST, SHORT_REST}
 use Rattle.listing_text.specs.declared.cause.Cause.{Cause}
 use Rattle.listing_text.specs.declared.cause.Cause.TheVariants as cause
 use Rattle.listing_text.specs.declared.refusal.Refusal.TheVariants as refusal
 use Rattle.listing_text.specs.Cause.{cause_line_of}
-use Rattle.cause_output.specs.Sinks.{IsCut, IsPut, IsSilent, SinkAt}
+use Rattle.tool_output.specs.Sinks.{IsCut, IsPut, IsSilent, SinkAt}
 use Rattle.cron_text.specs.declared.entry.CronEntry.{CronEntry}
 use Rattle.cron_session.specs.declared.report.CronEnd.{CronEnd}
 use Rattle.cron_session.specs.declared.report.CronEnd.TheVariants.{Done, Busy, FileFault, Damaged, QueueFull, NumbersUsedUp, Memory}
@@ -47,8 +47,8 @@ cause_of_cron_end Memory = cause.Memory
 abbrev pub cron_end_line : CronEnd → List ℕ
 cron_end_line end = cause_line_of cron_program_name (cause_of_cron_end end)
 
--- What is said of a session after which another may come: its line. That of want of memory may be wanting. Where it was
--- done nothing is put: the sink is as it was.
+-- What is said of a session after which another may come: its line. That of an out-of-memory error may be missing.
+-- Where it was done nothing is put: the sink is as it was.
 abbrev pub SaysCronEnd : CronEnd → SinkAt → SinkAt → Type 0
 SaysCronEnd Memory old new = IsSilent old new ⊎ IsPut (cron_end_line Memory) old new
 SaysCronEnd Done old new = new ≡ old
@@ -89,11 +89,11 @@ pub record IsCutOff (tells : Bool) (end : CronEnd) (old new : SinkAt) : Type 0 w
   pub rose : Rose old.faults new.faults
   pub cut : tells ≡ true → IsCut (cron_end_line end) old new
 
--- its line found no memory, and is not that of want of memory
+-- its line ran out of memory, and is not that of an out-of-memory error
 pub record IsUnsaid (tells : Bool) (end : CronEnd) (old new : SinkAt) : Type 0 where
   pub has_line : HasLine end
   pub wanted : end ≢ Memory
-  pub silent : tells ≡ true → IsSilent old new
+  pub unchecked : tells ≡ true → IsSilent old new
 
 -- what is said of a session that is the last one, by the cause for which it is: the line of a damage is still to be put
 abbrev pub EndsSaying : Bool → CronEnd → SinkAt → SinkAt → Cause → Type 0

@@ -1,7 +1,13 @@
+pub mod Clock
+pub mod CronRuns
+pub mod CrontabFile
 pub mod Examples
 pub mod Items
+pub mod Listing
+pub mod ListingRun
+pub mod ListingWords
 pub mod Outside
-pub mod Running
+pub mod Schedule
 pub mod Sessions
 pub mod Words
 pub mod inside

@@ -5,8 +5,8 @@ use Rattle.host_calls.specs.declared.inputs.Inputs as inputs
 use Rattle.host_calls.specs.declared.readings.Readings as readings
 use Rattle.host_calls.specs.declared.sink.Sink as sink
 use Rattle.host_calls.specs.Session.{IsLeft}
-use Rattle.cause_output.specs.Outside.{Telling, WorkAt, no_sink, outside_at, telling, work_at}
-use Rattle.cron_session.specs.Leaving.{CronAt}
+use Rattle.tool_output.specs.Outside.{Telling, WorkAt, no_sink, outside_at, telling, work_at}
+use Rattle.cron_session.specs.SessionOutcome.{CronAt}
 
 -- which of the objects that the program is handed tell what they hold: nothing is printed
 abbrev pub cron_telling : {H R I E : Type 0} → host.Ghosts H → readings.Ghosts R → inputs.Ghosts I → sink.Ghosts E → Telling

@@ -1,19 +1,19 @@
 -- One session of the program (own): the clock is read, then the file, and the session is made; or how the program ends
 -- there.
 use Rattle.std.specs.Prelude.{◌≡◌, ◌⊎◌, ◌+◌, ◌≤◌, ◌<◌, ℕ, ℤ, Bool, true, List, Option, Some, None, length}
-use Rattle.cause_output.specs.Outside.{Telling, WorkAt}
-use Rattle.clock_range.specs.ClockRange.{IsClockSecond}
+use Rattle.tool_output.specs.Outside.{Telling, WorkAt}
+use Rattle.host_calls.specs.ClockRange.{IsClockSecond}
 use Rattle.host_calls.specs.Causes.{Rose}
 use Rattle.host_calls.specs.Inputs.{IsInputPrefix}
 use Rattle.listing_text.specs.declared.cause.Cause.{Cause}
 use Rattle.listing_text.specs.declared.cause.Cause.TheVariants.{Refused, InputFault, Memory}
 use Rattle.listing_text.specs.declared.refusal.Refusal.TheVariants.{BadClock, BadCrontab, TooLong}
-use Rattle.cause_output.specs.declared.caller.Caller.{Caller}
+use Rattle.tool_output.specs.declared.caller.Caller.{Caller}
 use Rattle.cron_text.specs.declared.crontab.TheConstants.{MAX_CRONTAB}
 use Rattle.cron_text.specs.Crontab.{SpellsCrontab}
-use Rattle.cron_input.specs.Clock.{ReadsClock}
-use Rattle.cron_input.specs.Reading.{AsksFile, IsBadAt, ReadsFile}
-use Rattle.cron_session.specs.Leaving.{CronAt, CronsTo}
+use Rattle.cron_turn.specs.Clock.{ReadsClock}
+use Rattle.cron_turn.specs.CrontabFile.{AsksFile, IsBadAt, ReadsFile}
+use Rattle.cron_session.specs.SessionOutcome.{CronAt, CronsTo}
 use Rattle.cron_session.specs.Steps.{Cron}
 use Rattle.cron_turn.specs.Items.{EndsSaying, CronItem}
 
@@ -44,7 +44,7 @@ pub record CronStopsAtClock (tells : Telling) (old new : WorkAt CronAt) : Type 0
   pub input : new.input ≡ old.input
   pub unmade : IsUnmade old new
 
--- the file was asked for, after the clock had answered a second in its range
+-- the file was requested, after the clock had answered a second in its range
 pub record StopsAtFile (tells : Telling) (old new : WorkAt CronAt) : Type 0 where
   pub now : ℤ
   pub range : IsClockSecond now
@@ -59,7 +59,8 @@ pub record StopsAtText (tells : Telling) (path : List ℕ) (IsSo : List ℕ → 
   pub given : tells.input ≡ true → IsInputPrefix (old.input.contents.file path) (MAX_CRONTAB + 1) bytes
   pub so : IsSo bytes
 
--- Why no session was made: the clock, the inputs, a text that is too long or has a bad line, or want of memory.
+-- Why no session was made: the clock, the inputs, a text that is too long or has a bad line, or an out-of-memory
+-- error.
 abbrev pub StopsBefore : Telling → List ℕ → WorkAt CronAt → (WorkAt CronAt) → Cause → Type 0
 StopsBefore tells path old new (Refused BadClock) = CronStopsAtClock tells old new
 StopsBefore tells path old new (Refused TooLong) = StopsAtText tells path (λ bytes. MAX_CRONTAB < length bytes) old new
@@ -75,6 +76,6 @@ pub record StopsAfter (tells : Telling) (caller : Caller) (path : List ℕ) (old
   pub made : IsSessionMade tells caller path item old new
   pub says : EndsSaying tells.errors item.end old.said new.said cause
 
--- how the program ends at one session more
+-- how the program ends at one more session
 abbrev pub Stops : Telling → Caller → List ℕ → WorkAt CronAt → (WorkAt CronAt) → Cause → Type 0
 Stops tells caller path old new cause = StopsBefore tells path old new cause ⊎ StopsAfter tells caller path old new cause

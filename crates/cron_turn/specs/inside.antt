@@ -1,1 +1,3 @@
-pub mod Turning
+pub mod AddedLines
+pub mod Dates
+pub mod NextSession

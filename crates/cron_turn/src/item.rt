@@ -1,10 +1,10 @@
 //! What comes of a session's end: the rest after it, and the cause that is said of it.
 ghost use Rattle.std.specs.Prelude.{◌≡◌};
-ghost use Rattle.clock_range.specs.ClockRange.{IsClockSecond};
+ghost use Rattle.host_calls.specs.ClockRange.{IsClockSecond};
 ghost use Rattle.cron_turn.specs.Items.{cause_of_cron_end, rest_after_session};
 
 use cron_session::CronEnd;
-use host_session::{LONGEST_REST, SHORT_REST};
+use host_calls::{LONGEST_REST, SHORT_REST};
 use listing_text::{Cause, Refusal};
 
 // The seconds of the rest after a session.

@@ -1,21 +1,20 @@
-//! One session more: the clock and the file are read, the session is made, and its end is said.
+//! One more session: the clock and the file are read, the session is made, and its end is said.
 ghost use Rattle.std.specs.Prelude.{◌≡◌, ◌<◌, None};
-ghost use Rattle.cause_output.specs.Outside.{RestsOn, clock_at};
+ghost use Rattle.tool_output.specs.Outside.{RestsOn, clock_at};
 ghost use Rattle.civil_minute.specs.Zone.{IsReadable};
 ghost use Rattle.host_calls.specs.Session.{IsOutside};
 ghost use Rattle.job_script.specs.Check.{first_fault};
 ghost use Rattle.cron_turn.specs.Outside.{StaysSo, run_at, cron_telling};
-ghost use Rattle.cron_turn.specs.inside.Turning.{Turns};
+ghost use Rattle.cron_turn.specs.inside.NextSession.{Turns};
 
 use crate::item::rest_after_session;
+use crate::read_entries;
 use crate::say::say_cron_end;
-use cause_output::Caller;
-use clock_range::is_clock_second;
-use cron_input::read_entries;
 use cron_session::cron_session;
-use host_calls::{Host, Inputs, Readings, Sink};
+use host_calls::{Host, Inputs, Readings, Sink, is_clock_second};
 use listing_text::{Cause, Refusal};
 use std::alloc::Global;
+use tool_output::Caller;
 
 // Rests before a session, if it is not the first.
 pub(crate) fn rest_before_cron_session<R: Readings>(rest: Option<u32>, readings: &mut R)

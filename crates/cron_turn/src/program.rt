@@ -1,20 +1,20 @@
-//! The program: what its words ask for, done.
+//! The program: what its words request, done.
 ghost use Rattle.std.specs.Prelude.{◌≡◌, ◌<◌, map, string_bytes};
 ghost use Rattle.host_calls.specs.Session.{IsOutside};
 ghost use Rattle.listing_text.specs.Cause.{status_of};
 ghost use Rattle.cron_turn.specs.Outside.{StaysSo, run_at, cron_telling};
-ghost use Rattle.cron_turn.specs.Running.{RunsOrLacksMemory, CronRuns, HasRisenInTurns, caller_refused, refused_zone};
+ghost use Rattle.cron_turn.specs.CronRuns.{RunsOrLacksMemory, CronRuns, HasRisenInTurns, caller_refused, refused_zone};
 ghost use Rattle.cron_turn.specs.Words.{cron_asked};
 
 use crate::say::CRON_PROGRAM;
 use crate::sessions::make_cron_sessions;
 use crate::words::cron_request;
-use cause_output::{Caller, CommandError, cause_of_words, say_cause};
 use civil_minute::Zone;
 use host_calls::{Host, Inputs, Readings, Sink};
 use job_script::check;
 use listing_text::{Cause, Refusal, Status};
 use std::alloc::Global;
+use tool_output::{Caller, CommandError, cause_of_words, say_cause};
 
 /// Makes sessions of a crontab, one after another: each reads the clock and the crontab, and submits a job of each entry
 /// that is due at this minute, unless that minute was had before. The first of the words stands for the program's name,
@@ -45,7 +45,7 @@ pub fn cron_program<H: Host, R: Readings, I: Inputs, E: Sink>(
     Status::of(say_cause(alloc, CRON_PROGRAM, cause, err))
 }
 
-// Does what the words ask for, unless the caller is refused. The line of the cause is still to be said.
+// Does what the words request, unless the caller is refused. The line of the cause is still to be said.
 fn run_by_words<H: Host, R: Readings, I: Inputs, E: Sink>(
     alloc: Global,
     words: &[String],

@@ -1,8 +1,8 @@
 //! What is said of a session.
 ghost use Rattle.std.specs.Prelude.{◌≡◌, ◌≤◌, None};
-ghost use Rattle.cause_output.specs.Sinks.{sink_at};
+ghost use Rattle.tool_output.specs.Sinks.{sink_at};
 ghost use Rattle.cron_turn.specs.Items.{cron_end_line};
-ghost use Rattle.cron_turn.specs.inside.Turning.{PutsLine, SaysSession, after_put, damage_in, is_done_session};
+ghost use Rattle.cron_turn.specs.inside.NextSession.{PutsLine, SaysSession, after_put, damage_in, is_done_session};
 
 use crate::item::cause_of_cron_end;
 use cron_session::CronEnd;
@@ -37,7 +37,7 @@ fn damage_in(end: &CronEnd) -> Option<Damage>
 }
 
 // Says how a session ended that found no damage. Of one that was done nothing is put, so that a sink that fails is not
-// asked for nothing.
+// requested nothing.
 fn say_line<E: Sink>(alloc: Global, end: &CronEnd, err: &mut E) -> Option<Cause>
     requires { damage_in end.now ≡ None }
     ensures made_as { (E.outlet err.new).made_as ≡ (E.outlet err.old).made_as }
@@ -68,7 +68,7 @@ fn put_end_line<E: Sink>(alloc: Global, end: &CronEnd, err: &mut E) -> Result<()
     err.put(alloc, line.as_slice())
 }
 
-// Why no further session is made, by what came of the line of one. The line of want of memory may be wanting.
+// Why no further session is made, by what came of the line of one. The line of an out-of-memory error may be missing.
 fn after_put(end: &CronEnd, put: Result<(), SinkFault>) -> Option<Cause>
     ensures { result ≡ after_put end.now put }
 {

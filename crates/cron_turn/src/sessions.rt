@@ -4,14 +4,14 @@ ghost use Rattle.civil_minute.specs.Zone.{IsReadable};
 ghost use Rattle.host_calls.specs.Session.{IsOutside};
 ghost use Rattle.job_script.specs.Check.{first_fault};
 ghost use Rattle.cron_turn.specs.Outside.{StaysSo, run_at, cron_telling};
-ghost use Rattle.cron_turn.specs.Running.{RunsSessions};
+ghost use Rattle.cron_turn.specs.CronRuns.{RunsSessions};
 
 use crate::next_session::{next_cron_session, rest_before_cron_session};
 use crate::words::CronRequest;
-use cause_output::Caller;
 use host_calls::{Host, Inputs, Readings, Sink};
 use listing_text::Cause;
 use std::alloc::Global;
+use tool_output::Caller;
 
 // Makes so many sessions, or as many as there are up to one that ends it, with a rest between each two.
 pub(crate) fn make_cron_sessions<H: Host, R: Readings, I: Inputs, E: Sink>(

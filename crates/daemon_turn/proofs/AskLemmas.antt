@@ -1,4 +1,4 @@
--- Kids that are asked one after another.
+-- Children that are asked one after another.
 use Rattle.std.proofs.Common.{◌≡◌, ◌<◌, ◌≤◌, ◌+◌, ◌++◌, ℕ, zero, suc, Bool, true, List, [], ◌∷◌, append_assoc, append-nil, length, length-append, get_or, sym, ap, subst, ◌∙◌, refl, arith}
 use Rattle.std.proofs.lemmas.List.Elements.{Contains-get_or}
 use Rattle.std.specs.Prelude.{Contains, IsErrAnd, Option, Result, Ok, Err, Vec}
@@ -14,16 +14,16 @@ use Rattle.step_runs.proofs.MadeLemmas.{no_steps_are_made}
 use Rattle.step_runs.proofs.TurnLemmas.{question_after}
 use Rattle.daemon_turn.specs.declared.kid.Kid.{Kid}
 use Rattle.spool_model.specs.declared.turn_step.TurnStep.{TurnStep}
-use Rattle.daemon_turn.specs.inside.Asking.{AsksAll}
+use Rattle.daemon_turn.specs.inside.AskedChildren.{AsksAll}
 use Rattle.daemon_turn.specs.Kids.{AreChildren}
 use Rattle.daemon_turn.specs.Decisions.{end_of, end_steps, questions}
 
--- so many of the kids have answered
+-- so many of the children have answered
 pub record HasAsked (tells : Bool) (kids : List Kid) (count : ℕ) (known : List TurnStep) (old new : World) : Type 0 where
   pub answers : List (Option Ending)
   pub counted : length answers ≡ count
   pub ended : known ≡ end_steps kids answers
-  pub asked : tells ≡ true → (kept : Kept) (table : JobTable) → IsCurrent kept old.now.folder table →
+  pub asked : tells ≡ true → (kept : Kept) (table : JobTable) → IsCurrent kept old.now.directory table →
       AreMade table [] [] (questions kids answers) kept old new
 
 pub ends_of_none : (kids : List Kid) → end_steps kids [] ≡ []
@@ -92,7 +92,7 @@ one_asked tells kids count known last old middle new default answer below has wr
           (question_after table [] [] (questions kids has.answers) kept old middle new (has.asked is kept table current) kid.child answer (asks is));
     }
 
--- all kids have answered
+-- all children have answered
 pub all_asked : {E : Type 0} (tells : Bool) (kids : List Kid) (count : ℕ) (known : Vec TurnStep Global) (old new : World) → count ≡ length kids →
     HasAsked tells kids count known.items old new → AsksAll {E = E} tells kids old new (Ok known)
 all_asked tells kids count known old new whole has = record {
@@ -116,7 +116,7 @@ some_asked tells kids count known old middle new fault (Err other) is below has 
       subst (AreMade table [] [] (questions kids has.answers) kept old) (sym (same is)) (has.asked is kept table current);
 }
 
--- the child of the next kid is one of the host's
+-- the child of the next child is one of the host's
 pub child_held : (was now : List Child) (kids : List Kid) (count : ℕ) (default : Kid) → AreChildren was kids → now ≡ was → count < length kids →
     Contains now (get_or kids count default).child
 child_held was now kids count default are same below =

@@ -11,7 +11,7 @@ use Rattle.host_calls.specs.declared.host.Host.{Ghosts}
 use Rattle.host_calls.specs.Causes.{Rose}
 use Rattle.host_calls.specs.Session.{Enters, IsLeft, Session}
 use Rattle.host_calls.specs.World.{World, reading}
-use Rattle.host_session.specs.Work.{Calls, EndsSession, IsWorkUndone}
+use Rattle.host_calls.specs.SessionWork.{Calls, EndsSession, IsWorkUndone}
 use Rattle.spool_model.specs.JobTable.{JobTable}
 use Rattle.spool_shows.specs.Shown.{shown_by}
 use Rattle.whole_file.proofs.OthersLemmas.{changes_none}
@@ -20,28 +20,28 @@ use Rattle.step_runs.specs.Calls.{ShowsAsBefore}
 use Rattle.step_runs.proofs.AttemptLemmas.{recoveries_begin_nothing}
 use Rattle.host_calls.specs.declared.store_fault.StoreFault.{StoreFault}
 use Rattle.host_calls.specs.declared.store_fault.StoreFault.TheVariants as fault
-use Rattle.host_session.proofs.SessionLemmas.{counts_on}
+use Rattle.host_calls.proofs.SessionLemmas.{counts_on}
 use Rattle.daemon_turn.specs.declared.kid.Kid.{Kid}
 use Rattle.daemon_turn.specs.declared.mode.Mode.{Mode}
 use Rattle.daemon_turn.specs.declared.turn_input.TurnInput.{TurnInput}
-use Rattle.host_session.specs.declared.turn_end.TurnEnd.{TurnEnd}
-use Rattle.host_session.specs.declared.turn_end.TurnEnd.TheVariants.{Done, Busy, FileFault, Damaged, Memory}
+use Rattle.host_calls.specs.declared.turn_end.TurnEnd.{TurnEnd}
+use Rattle.host_calls.specs.declared.turn_end.TurnEnd.TheVariants.{Done, Busy, FileFault, Damaged, Memory}
 use Rattle.spool_model.specs.declared.turn_step.TurnStep.{TurnStep}
 use Rattle.daemon_turn.specs.Daemons.{DaemonState}
 use Rattle.daemon_turn.specs.Kids.{AreKidsByNumber, AreChildren}
-use Rattle.daemon_turn.specs.Leaving.{TurnHandsOver, IfNoTableRead, IsTurnIdle, IsNoStepMade, IsTurnStopped, IsTurnDone, DaemonAt, TurnLeaves, TurnsTo}
-use Rattle.daemon_turn.specs.Starting.{Turn, turn_of}
+use Rattle.daemon_turn.specs.TurnOutcome.{TurnHandsOver, IfNoTableRead, IsTurnIdle, IsNoStepMade, IsTurnStopped, IsTurnDone, DaemonAt, TurnLeaves, TurnsTo}
+use Rattle.daemon_turn.specs.StartOrder.{Turn, turn_of}
 use Rattle.host_calls.specs.StoreFaults.{IsReadingFault}
-use Rattle.host_session.specs.Ends.{end_after, end_of_session}
-use Rattle.daemon_turn.specs.inside.Working.{TurnWorks}
-use Rattle.host_session.proofs.EndLemmas.{is_fault, not_busy}
+use Rattle.host_calls.specs.SessionEnds.{end_after, end_of_session}
+use Rattle.daemon_turn.specs.inside.TurnWork.{TurnWorks}
+use Rattle.host_calls.proofs.SessionEndLemmas.{is_fault, not_busy}
 
 abbrev stand : Session → World → DaemonState → DaemonAt
 stand session world daemon = record { session = session; world = world; daemon = daemon }
 
 -- where nothing changed, no step was begun
 unbegun_same : (old new : World) → new ≡ old → IsUnbegun old new
-unbegun_same old new same = subst (IsUnbegun old) (sym same) (recoveries_begin_nothing old old (changes_none (ShowsAsBefore old.now.folder) old))
+unbegun_same old new same = subst (IsUnbegun old) (sym same) (recoveries_begin_nothing old old (changes_none (ShowsAsBefore old.now.directory) old))
 
 idle_same : (before after : Session) (old new : World) (daemon : DaemonState) → new ≡ old → IsTurnIdle [] (stand before old daemon) (stand after new daemon)
 idle_same before after old new daemon same = record {

@@ -1,4 +1,4 @@
--- What is decided of running jobs, part by part.
+-- What is finished of running jobs, part by part.
 use Rattle.std.proofs.Common.{◌≡◌, ◌≤◌, ◌<◌, ◌-◌, ◌++◌, ◌||◌, ℕ, zero, suc, Bool, true, false, not, List, [], ◌∷◌, append_assoc, append-nil, drop, filter, length, map, min, take, sym, ap, subst, ◌∙◌, refl, arith, inl, inr}
 use Rattle.std.specs.Prelude.{AllPairs, IfOk, IsErrAnd, Option, Some, None, Result, Ok, Err, Vec}
 use Rattle.std.specs.declared.alloc.Global.{Global}
@@ -16,7 +16,7 @@ use Rattle.spool_model.specs.Steps.{AreLegal, after_steps}
 use Rattle.spool_model.specs.Laws.{PrefixAndRest}
 use Rattle.spool_model.proofs.StepLemmas.{prefixes_are_legal}
 use Rattle.step_runs.specs.Current.{IsCurrent, Kept}
-use Rattle.spool_store.specs.Making.{AreChanges, MayMakeSteps}
+use Rattle.spool_store.specs.StepSequences.{AreChanges, MayMakeSteps}
 use Rattle.host_calls.specs.declared.store_fault.StoreFault.{StoreFault}
 use Rattle.host_calls.specs.declared.store_fault.StoreFault.TheVariants.{Memory}
 use Rattle.spool_shows.proofs.Membership.{Has, has_left, made_has}
@@ -26,11 +26,11 @@ use Rattle.spool_model.specs.declared.turn_step.TurnStep.TheVariants.{Ended, Int
 use Rattle.daemon_turn.specs.Decisions.{end_steps, interrupts, is_job_without_kid, questions, runs_in}
 use Rattle.daemon_turn.specs.Kids.{AreKidsByNumber, AreChildren, tells_end_of}
 use Rattle.spool_model.specs.StepsOf.{number_of_step, steps_of_turn}
-use Rattle.daemon_turn.specs.inside.Asking.{AsksAll}
-use Rattle.daemon_turn.specs.inside.Deciding.{AreEndsRecorded, MakesDecisions, MayDecide}
+use Rattle.daemon_turn.specs.inside.AskedChildren.{AsksAll}
+use Rattle.daemon_turn.specs.inside.Decisions.{AreEndsRecorded, MakesDecisions, MayDecide}
 use Rattle.daemon_turn.specs.inside.Ended.{AreEndsByNumber, is_end, without_ended}
-use Rattle.daemon_turn.specs.inside.Going.{TurnPart, joined_parts, quiet_part}
-use Rattle.daemon_turn.specs.inside.Making.{MakesAll}
+use Rattle.daemon_turn.specs.inside.TurnParts.{TurnPart, joined_parts, quiet_part}
+use Rattle.daemon_turn.specs.inside.MadeSteps.{MakesAll}
 use Rattle.step_runs.proofs.ApartLemmas.{Apart, all_each, each_all, filter_alike, pairs_cons, pairs_head, pairs_nil, pairs_tail, rise_apart}
 use Rattle.daemon_turn.proofs.AskLemmas.{ends_of_none, questions_of_none}
 use Rattle.daemon_turn.proofs.DecisionLemmas.{EachRuns, decisions_legal, end_of_kid}
@@ -41,7 +41,7 @@ use Rattle.daemon_turn.proofs.GoLemmas.{asked_part, asks_go, goes_then, memory_g
 abbrev kid_number : Kid → ℕ
 kid_number kid = kid.number
 
--- steps that give up or end hand nothing over
+-- steps that give up or end starts nothing
 quiet_interrupts : (rows : List Row) → AreChanges (steps_of_turn (map (λ (row : Row). Interrupted row.number) rows))
 quiet_interrupts [] = tt
 quiet_interrupts (row ∷ rows) = (tt, quiet_interrupts rows)
@@ -74,7 +74,7 @@ module _ (tells : Bool) (session : Session) (world : World) (kept : Kept) (kids 
 
   pub may_end_all : (now : Kept) (between : Session) (middle : World) (known : List TurnStep) (answers : List (Option Ending)) → IsInside between →
       now.table ≡ after_steps kept.table (steps_of_turn (interrupts kept.table kids)) → known ≡ end_steps kids answers →
-      (tells ≡ true → (table : JobTable) × IsCurrent now middle.now.folder table) → MayMakeSteps tells between middle now (steps_of_turn known)
+      (tells ≡ true → (table : JobTable) × IsCurrent now middle.now.directory table) → MayMakeSteps tells between middle now (steps_of_turn known)
   may_end_all now between middle known answers inside table_is is current = record {
     inside = inside;
     legal = subst (λ (steps : List TurnStep). AreLegal now.table (steps_of_turn steps)) (sym is)
@@ -83,7 +83,7 @@ module _ (tells : Bool) (session : Session) (world : World) (kept : Kept) (kids 
     current = current;
   }
 
--- a host whose children stay still has those of the kids
+-- a host whose children stay still has those of the children
 pub children_stay : (before after : Session) (kids : List Kid) → after.children ≡ before.children ++ [] → AreChildren before.children kids → AreChildren after.children kids
 children_stay before after kids same are = subst (λ l. AreChildren l kids) (sym (same ∙ append-nil before.children)) are
 
@@ -299,8 +299,8 @@ reported_slice interrupted all steps reported first counted lost_is same is coun
 
 -- what is kept is current still
 pub now_current : {E : Type 0} (tells : Bool) (before first : Session) (old given_up middle : World) (kept now : Kept) (interrupted : List TurnStep) (kids : List Kid) (was between : List TurnStep) (told : Vec TurnStep Global) →
-    (tells ≡ true → (table : JobTable) × IsCurrent kept old.now.folder table) → MakesAll tells before first old given_up kept interrupted was between (Ok now) →
-    AsksAll {E = E} tells kids given_up middle (Ok told) → tells ≡ true → (table : JobTable) × IsCurrent now middle.now.folder table
+    (tells ≡ true → (table : JobTable) × IsCurrent kept old.now.directory table) → MakesAll tells before first old given_up kept interrupted was between (Ok now) →
+    AsksAll {E = E} tells kids given_up middle (Ok told) → tells ≡ true → (table : JobTable) × IsCurrent now middle.now.directory table
 now_current tells before first old given_up middle kept now _ kids was between told current makes asks is =
     let table : JobTable = (current is).0 in
     (_, (asks.asked is now _ (makes.goes.files is table (current is).1).ends.current).current)

@@ -1,4 +1,4 @@
--- What is decided of running jobs is legal: whose numbers the steps have.
+-- What is finished of running jobs is legal: whose numbers the steps have.
 use Rattle.std.proofs.Common.{◌≡◌, ◌==◌, ◌++◌, ℕ, ℤ, Bool, true, false, not, List, [], ◌∷◌, map, filter, inl, inr, sym, ap, subst, ◌∙◌, refl}
 use Rattle.std.specs.Prelude.{Option, Some, None}
 use Rattle.std.proofs.lemmas.Bool.{and_parts}
@@ -38,15 +38,15 @@ row_runs table row has is =
     let held : (job : Job) × (entry_at table row.number ≡ Some (Live job row.state)) = row_held table row has in
     running_entry (entry_at table row.number) (ap is_running_entry held.1 ∙ is)
 
--- each kid is that of a job that runs
+-- each child is that of a job that runs
 abbrev pub EachRuns : JobTable → List Kid → Type 0
 EachRuns table kids = (kid : Kid) → Has kids kid → runs_in table kid ≡ true
 
--- the kids of which the turn asks run
+-- the children of which the turn asks run
 pub asked_run : (table : JobTable) (kids : List Kid) → EachRuns table (filter (runs_in table) kids)
 asked_run table kids kid has = (filtered_has (runs_in table) kids kid has).1
 
--- an interrupt is that of a row without a kid
+-- an interrupt is that of a row without a child
 pub interrupt_of : (table : JobTable) (kids : List Kid) (step : TurnStep) → Has (interrupts table kids) step →
     (row : Row) × Has (live_rows table) row × (is_job_without_kid kids row ≡ true) × (Interrupted row.number ≡ step)
 interrupt_of table kids step has =
@@ -55,7 +55,7 @@ interrupt_of table kids step has =
     let kept : Has (live_rows table) made.0 × (is_job_without_kid kids made.0 ≡ true) = filtered_has (is_job_without_kid kids) (live_rows table) made.0 made.1 in
     (made.0, kept.0, kept.1, made.2)
 
--- an end is that of a kid
+-- an end is that of a child
 pub end_of_kid : (kids : List Kid) (answers : List (Option Ending)) (step : TurnStep) → Has (end_steps kids answers) step →
     (kid : Kid) × (ending : Ending) × Has kids kid × (Ended kid.number ending ≡ step)
 end_of_kid [] answers step has = absurd has
@@ -87,7 +87,7 @@ numbers_of_rows : (rows : List Row) → map number_of_step (map (λ (row : Row).
 numbers_of_rows [] = refl
 numbers_of_rows (row ∷ rows) = ap (λ rest. row.number ∷ rest) (numbers_of_rows rows)
 
--- a kid that is there is found
+-- a child that exists is found
 kid_found : (kids : List Kid) (kid : Kid) (number : ℕ) → Has kids kid → kid.number ≡ number → has_kid kids number ≡ true
 kid_found kids kid number has same = any_passes (λ one. one.number == number) kids kid has (a_test kid.number number same) where
   a_test : (a b : ℕ) → a ≡ b → (a == b) ≡ true
@@ -107,7 +107,7 @@ module _ (table : JobTable) (kids : List Kid) (apart : Apart (map kid_number kid
       map-append number_of_step (interrupts table kids) (end_steps kids answers)
       ∙ ap (λ (numbers : List ℕ). numbers ++ map number_of_step (end_steps kids answers)) (numbers_of_rows (filter (is_job_without_kid kids) (live_rows table)))
 
-  -- a row without a kid has no kid
+  -- a row without a child has no child
   no_kid : (number : ℕ) → Has (map (λ (row : Row). row.number) (filter (is_job_without_kid kids) (live_rows table))) number → Has (map number_of_step (end_steps kids answers)) number → ⊥
   no_kid number has other =
       let row : (row : Row) × Has (filter (is_job_without_kid kids) (live_rows table)) row × (row.number ≡ number) = made_has (λ (row : Row). row.number) (filter (is_job_without_kid kids) (live_rows table)) number has in

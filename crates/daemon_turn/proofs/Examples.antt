@@ -5,7 +5,7 @@ use Rattle.host_calls.specs.declared.child.Ending.TheVariants.{Exit, NotStarted}
 use Rattle.queue_rules.specs.Queues.{may_start_batch, niceness_of}
 use Rattle.spool_model.specs.declared.turn_step.TurnStep.TheVariants.{Ended, HandedOver}
 use Rattle.daemon_turn.specs.Decisions.{end_steps}
-use Rattle.daemon_turn.specs.Starting.{steps_of_starts}
+use Rattle.daemon_turn.specs.StartOrder.{steps_of_starts}
 
 -- a start that failed is ended, and the job after it is started
 failed_start : steps_of_starts (1 ∷ 2 ∷ []) (pos 1735689600) (false ∷ true ∷ []) ≡ HandedOver 1 (pos 1735689600) ∷ Ended 1 NotStarted ∷ HandedOver 2 (pos 1735689600) ∷ []
@@ -15,7 +15,7 @@ failed_start = refl
 first_start : steps_of_starts (1 ∷ 2 ∷ []) (pos 1735689600) [] ≡ HandedOver 1 (pos 1735689600) ∷ []
 first_start = refl
 
--- each end is that of the kid that told it
+-- each end is that of the child that told it
 second_kid : end_steps (record { number = 1; child = record { id = 0 } } ∷ record { number = 4; child = record { id = 1 } } ∷ []) (None ∷ Some (Exit 3) ∷ []) ≡ Ended 4 (Exit 3) ∷ []
 second_kid = refl
 

@@ -22,9 +22,9 @@ use Rattle.spool_model.specs.declared.turn_step.TurnStep.{TurnStep}
 use Rattle.spool_model.specs.declared.turn_step.TurnStep.TheVariants.{HandedOver}
 use Rattle.daemon_turn.specs.Kids.{started_numbers}
 use Rattle.spool_model.specs.StepsOf.{step_of, steps_of_turn}
-use Rattle.daemon_turn.specs.inside.Going.{StartsPart, MakesPart, TurnPart, TurnPartEnds, joined_parts}
-use Rattle.daemon_turn.specs.inside.Handing.{HandsJobOver}
-use Rattle.host_session.proofs.SessionLemmas.{counts_on, no_counts}
+use Rattle.daemon_turn.specs.inside.TurnParts.{StartsPart, MakesPart, TurnPart, TurnPartEnds, joined_parts}
+use Rattle.daemon_turn.specs.inside.StartedJob.{HandsJobOver}
+use Rattle.host_calls.proofs.SessionLemmas.{counts_on, no_counts}
 use Rattle.daemon_turn.proofs.HandLemmas.{no_fault, not_memory}
 
 -- no part
@@ -107,7 +107,7 @@ abbrev pub asked_part : List Asked → TurnPart
 asked_part questions = record { steps = []; next = []; questions = questions; flags = []; added = [] }
 
 pub asks_go : (tells : Bool) (before after : Session) (old new : World) (kept : Kept) (questions : List Asked) → StaysInside before after →
-    (tells ≡ true → (now : Kept) (table : JobTable) → IsCurrent now old.now.folder table → AreMade table [] [] questions now old new) →
+    (tells ≡ true → (now : Kept) (table : JobTable) → IsCurrent now old.now.directory table → AreMade table [] [] questions now old new) →
     MakesPart tells before after old new kept (asked_part questions) (Ok kept)
 asks_go tells before after old new kept questions stays asked = record {
   inside = stays.inside;
@@ -122,7 +122,7 @@ asks_go tells before after old new kept questions stays asked = record {
 
 -- where memory is wanting
 pub memory_goes : (tells : Bool) (before after : Session) (old new : World) (kept : Kept) (questions : List Asked) → StaysInside before after →
-    (tells ≡ true → (now : Kept) (table : JobTable) → IsCurrent now old.now.folder table → AreMade table [] [] questions now old new) →
+    (tells ≡ true → (now : Kept) (table : JobTable) → IsCurrent now old.now.directory table → AreMade table [] [] questions now old new) →
     MakesPart tells before after old new kept (asked_part questions) (Err Memory)
 memory_goes tells before after old new kept questions stays asked = record {
   inside = stays.inside;
@@ -146,7 +146,7 @@ abbrev pub kept_by : Result (Kept × Option Child) StoreFault → Result Kept St
 kept_by (Ok started) = Ok started.0
 kept_by (Err fault) = Err fault
 
--- the kid of a start of which a child came
+-- the child of a start of which a child came
 abbrev pub kid_of : ℕ → Option Child → List Kid
 kid_of number None = []
 kid_of number (Some child) = record { number = number; child = child } ∷ []

@@ -5,7 +5,7 @@ use Rattle.std.specs.FinMap as finite
 use Rattle.host_calls.specs.declared.child.Child.{Child}
 use Rattle.host_calls.specs.declared.fault.StartFault.{StartFault}
 use Rattle.host_calls.specs.declared.fault.StartFault.TheVariants.{Failed, Memory as NoMemory}
-use Rattle.host_calls.specs.Folder.{Files, Folder, reading_of}
+use Rattle.host_calls.specs.Directory.{Files, Directory, reading_of}
 use Rattle.host_calls.specs.Session.{Session, Starts}
 use Rattle.host_calls.specs.World.{StartCall, World, reading}
 use Rattle.job_name.specs.JobName.{SpellsJobName}
@@ -29,9 +29,9 @@ use Rattle.host_calls.specs.declared.store_fault.StoreFault.{StoreFault}
 use Rattle.host_calls.specs.declared.store_fault.StoreFault.TheVariants.{FileFault, Memory}
 use Rattle.spool_store.specs.Listed.{IsLive}
 use Rattle.spool_store.specs.Scripts.{HoldsScript, IsLiveFileName}
-use Rattle.spool_store.specs.Stepping.{MakesStep}
-use Rattle.host_session.proofs.SessionLemmas.{counts_on}
-use Rattle.daemon_turn.specs.inside.Handing.{HandingEnds, HandsJobOver}
+use Rattle.spool_store.specs.OneStep.{MakesStep}
+use Rattle.host_calls.proofs.SessionLemmas.{counts_on}
+use Rattle.daemon_turn.specs.inside.StartedJob.{HandingEnds, HandsJobOver}
 
 -- the job that was started runs since then
 pub started_entry : (table after : JobTable) (number : ℕ) (second : ℤ) (legal : IsLegal table (Start number second)) → after ≡ after_step table (Start number second) →
@@ -49,10 +49,10 @@ same_job : (one other : Job) (state since : JobState) → ◌≡◌ {A = Option 
 same_job one other state since is = cc
 
 -- the file of a live job has its script, and the niceness of its name's queue is that of the job's
-pub script_is : (kept : Kept) (folder : Folder) (table : JobTable) (number : ℕ) (name : List ℕ) (queue nice : ℕ) (file : IsLiveFileName kept.table kept.old_form number name) →
-    queue ≡ file.job.queue → nice ≡ niceness_of queue → IsCurrent kept folder table → HoldsScript table folder number name →
-    IsScriptFile table (reading_of folder) number name nice
-script_is kept folder table number name queue nice file queue_is nice_is current holds =
+pub script_is : (kept : Kept) (directory : Directory) (table : JobTable) (number : ℕ) (name : List ℕ) (queue nice : ℕ) (file : IsLiveFileName kept.table kept.old_form number name) →
+    queue ≡ file.job.queue → nice ≡ niceness_of queue → IsCurrent kept directory table → HoldsScript table directory number name →
+    IsScriptFile table (reading_of directory) number name nice
+script_is kept directory table number name queue nice file queue_is nice_is current holds =
     let shown : entry_at (without_scripts table) number ≡ Some (Live (job_without_script holds.script.job) holds.script.state) =
     entries_are_without_scripts table number ∙ ap (option_map entry_without_script) holds.script.lives in
     let known : entry_at (without_scripts table) number ≡ Some (Live file.job file.state) =
@@ -68,41 +68,41 @@ script_is kept folder table number name queue nice file queue_is nice_is current
 
 module _ (kept : Kept) (number : ℕ) (second : ℤ) (old middle : World) (legal : IsLegal kept.table (Start number second)) where
   -- a start that failed stands or not
-  pub start_stopped : (fault : StoreFault) (table : JobTable) → IsCurrent kept old.now.folder table →
+  pub start_stopped : (fault : StoreFault) (table : JobTable) → IsCurrent kept old.now.directory table →
       StoreCall {E = StoreFault} table (Start number second ∷ []) old middle (Err fault) →
       HandingEnds table number second old middle (Err fault)
   start_stopped fault table current call =
-      calls_stop_at_their_step table (Start number second) old middle (legal_when_kept kept old.now.folder table (Start number second) current legal) current.shows call.files
+      calls_stop_at_their_step table (Start number second) old middle (legal_when_kept kept old.now.directory table (Start number second) current legal) current.shows call.files
 
   -- one that stands is followed by the call that takes its script
-  start_ends : (last : Kept) (name : List ℕ) (nice : ℕ) (new : World) (result : Result Child StartFault) (table : JobTable) → IsCurrent kept old.now.folder table →
+  start_ends : (last : Kept) (name : List ℕ) (nice : ℕ) (new : World) (result : Result Child StartFault) (table : JobTable) → IsCurrent kept old.now.directory table →
       StoreCall {E = StoreFault} table (Start number second ∷ []) old middle (Ok last) →
-      ((folder : Folder) (shown : JobTable) → IsCurrent last folder shown → IsScriptFile shown (reading_of folder) number name nice) →
+      ((directory : Directory) (shown : JobTable) → IsCurrent last directory shown → IsScriptFile shown (reading_of directory) number name nice) →
       StartCall number name nice middle new result → StartEnds table number second last old new result
   start_ends last name nice new result table current call file started =
       starts_end table number second name nice last old middle new result
-      (legal_when_kept kept old.now.folder table (Start number second) current legal) current.shows call.files call.current call.others
-      (file middle.now.folder (after_step table (Start number second)) call.current) started
+      (legal_when_kept kept old.now.directory table (Start number second) current legal) current.shows call.files call.current call.others
+      (file middle.now.directory (after_step table (Start number second)) call.current) started
 
-  pub child_came : (last : Kept) (name : List ℕ) (nice : ℕ) (new : World) (child : Child) (table : JobTable) → IsCurrent kept old.now.folder table →
+  pub child_came : (last : Kept) (name : List ℕ) (nice : ℕ) (new : World) (child : Child) (table : JobTable) → IsCurrent kept old.now.directory table →
       StoreCall {E = StoreFault} table (Start number second ∷ []) old middle (Ok last) →
-      ((folder : Folder) (shown : JobTable) → IsCurrent last folder shown → IsScriptFile shown (reading_of folder) number name nice) →
+      ((directory : Directory) (shown : JobTable) → IsCurrent last directory shown → IsScriptFile shown (reading_of directory) number name nice) →
       StartCall {T = Child} number name nice middle new (Ok child) → HandingEnds table number second old new (Ok (last, Some child))
   child_came last name nice new child table current call file started = start_ends last name nice new (Ok child) table current call file started
 
-  pub no_child_came : (last : Kept) (name : List ℕ) (nice : ℕ) (new : World) (table : JobTable) → IsCurrent kept old.now.folder table →
+  pub no_child_came : (last : Kept) (name : List ℕ) (nice : ℕ) (new : World) (table : JobTable) → IsCurrent kept old.now.directory table →
       StoreCall {E = StoreFault} table (Start number second ∷ []) old middle (Ok last) →
-      ((folder : Folder) (shown : JobTable) → IsCurrent last folder shown → IsScriptFile shown (reading_of folder) number name nice) →
+      ((directory : Directory) (shown : JobTable) → IsCurrent last directory shown → IsScriptFile shown (reading_of directory) number name nice) →
       StartCall {T = Child} number name nice middle new (Err Failed) → HandingEnds table number second old new (Ok (last, None))
   no_child_came last name nice new table current call file started = start_ends last name nice new (Err Failed) table current call file started
 
-  pub no_memory : (last : Kept) (name : List ℕ) (nice : ℕ) (new : World) (table : JobTable) → IsCurrent kept old.now.folder table →
+  pub no_memory : (last : Kept) (name : List ℕ) (nice : ℕ) (new : World) (table : JobTable) → IsCurrent kept old.now.directory table →
       StoreCall {E = StoreFault} table (Start number second ∷ []) old middle (Ok last) →
-      ((folder : Folder) (shown : JobTable) → IsCurrent last folder shown → IsScriptFile shown (reading_of folder) number name nice) →
+      ((directory : Directory) (shown : JobTable) → IsCurrent last directory shown → IsScriptFile shown (reading_of directory) number name nice) →
       StartCall {T = Child} number name nice middle new (Err NoMemory) → HandingEnds table number second old new (Err Memory)
   no_memory last name nice new table current call file started = start_ends last name nice new (Err NoMemory) table current call file started
 
--- what an answer has that is there
+-- what an answer has that exists
 pub is_there : {X : Type 0} (P : Type 0) (found : Option X) → IfNone found (P → ⊥) → P → IsSome found
 is_there P None absent holds = absurd (absent holds)
 is_there P (Some value) absent holds = refl
@@ -151,7 +151,7 @@ not_started tells before after old new kept number second fault (Err other) is l
     })
 
 -- After the store's start, which was made:
-module _ (tells : Bool) (before between after : Session) (old middle new : World) (kept last : Kept) (number : ℕ) (second : ℤ) (legal : IsLegal kept.table (Start number second)) (makes : MakesStep tells before between old middle kept (Start number second) (Ok last)) (name : List ℕ) (nice : ℕ) (file : (folder : Folder) (shown : JobTable) → IsCurrent last folder shown → IsScriptFile shown (reading_of folder) number name nice) where
+module _ (tells : Bool) (before between after : Session) (old middle new : World) (kept last : Kept) (number : ℕ) (second : ℤ) (legal : IsLegal kept.table (Start number second)) (makes : MakesStep tells before between old middle kept (Start number second) (Ok last)) (name : List ℕ) (nice : ℕ) (file : (directory : Directory) (shown : JobTable) → IsCurrent last directory shown → IsScriptFile shown (reading_of directory) number name nice) where
   pub given_child : (child : Child) → Starts {E = StartFault} between after (Ok child) →
       (tells ≡ true → StartCall {T = Child} number name nice middle new (Ok child)) →
       HandsJobOver tells before after old new kept number second (Ok (last, Some child))
@@ -195,11 +195,11 @@ module _ (tells : Bool) (before between after : Session) (old middle new : World
   }
 
   -- the script is there when the host is called
-  pub held_now : (tells ≡ true → (table : JobTable) × IsCurrent kept old.now.folder table) → tells ≡ true → IsSome (finite.get (reading middle) name)
+  pub held_now : (tells ≡ true → (table : JobTable) × IsCurrent kept old.now.directory table) → tells ≡ true → IsSome (finite.get (reading middle) name)
   held_now current known =
       let table : JobTable = (current known).0 in
       script_held (after_step table (Start number second)) (reading middle) number name nice
-      (file middle.now.folder (after_step table (Start number second)) (makes.files known table (current known).1).current)
+      (file middle.now.directory (after_step table (Start number second)) (makes.files known table (current known).1).current)
 
 -- the store's start, at the second as it is written
 pub made_at : (tells : Bool) (before after : Session) (old new : World) (kept : Kept) (number : ℕ) (written second : ℤ) (result : Result Kept StoreFault) → written ≡ second →
@@ -207,7 +207,7 @@ pub made_at : (tells : Bool) (before after : Session) (old new : World) (kept : 
 made_at tells before after old new kept number written second result same makes =
     subst (λ (of : ℤ). MakesStep tells before after old new kept (Start number of) result) same makes
 
--- and what comes of it, where it is known whether a child came
+-- and what results from it, where it is known whether a child came
 pub handed_at : (tells : Bool) (before after : Session) (old new : World) (kept store : Kept) (number : ℕ) (written second : ℤ) (found child : Option Child) → written ≡ second → found ≡ child →
     HandsJobOver tells before after old new kept number written (Ok (store, found)) → HandsJobOver tells before after old new kept number second (Ok (store, child))
 handed_at tells before after old new kept store number written second found child same is hands =

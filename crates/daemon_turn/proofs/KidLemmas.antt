@@ -1,4 +1,4 @@
--- Which kids stay, and that no two have one number.
+-- Which children stay, and that no two have one number.
 use Rattle.std.proofs.Common.{◌≡◌, ◌++◌, ◌||◌, ◌&&◌, ◌==◌, ℕ, Bool, true, false, not, cond, List, [], ◌∷◌, filter, map, sym, ap, subst, ◌∙◌, refl, inl, inr}
 use Rattle.std.specs.Prelude.{Some}
 use Rattle.std.specs.List.{list_any}
@@ -17,7 +17,7 @@ use Rattle.daemon_turn.specs.Decisions.{asked_kids, has_kid, interrupts, is_job_
 use Rattle.daemon_turn.specs.Kids.{kept_kids, tells_end_of}
 use Rattle.spool_model.specs.StepsOf.{number_of_step}
 use Rattle.daemon_turn.specs.inside.Ended.{without_ended}
-use Rattle.daemon_turn.specs.inside.Waiting.{started_of}
+use Rattle.daemon_turn.specs.inside.PendingNumbers.{started_of}
 use Rattle.step_runs.proofs.ApartLemmas.{Apart, filter_alike}
 use Rattle.step_runs.proofs.RowLemmas.{row_held}
 
@@ -46,7 +46,7 @@ no_end_of number steps none = by_test (list_any (tells_end_of number) steps) ref
       let found : (step : TurnStep) × Has steps step × (tells_end_of number step ≡ true) = one_passes (tells_end_of number) steps is in
       absurd (none (subst (Has (map number_of_step steps)) (end_number number found.0 found.2) (has_made number_of_step steps found.0 found.1)))
 
--- the kids that stay, by the ends among the first steps, where the others are of no running job
+-- the children that stay, by the ends among the first steps, where the others are of no running job
 pub kids_stay : (table : JobTable) (first others : List TurnStep) (kids : List Kid) →
     ((kid : Kid) → runs_in table kid ≡ true → list_any (tells_end_of kid.number) others ≡ false) →
     without_ended first (asked_kids table kids) ≡ kept_kids table (first ++ others) kids
@@ -70,7 +70,7 @@ any_kept {X} one other (x ∷ xs) implies = by_tests (one x) (other x) refl refl
   by_tests false true is also rest = ap (λ v. v || list_any one (filter other xs)) is ∙ rest
   by_tests false false is also rest = rest
 
--- a row that runs has the kids of the asked ones
+-- a row that runs has the children of the asked ones
 pub interrupts_asked : (table : JobTable) (kids : List Kid) → interrupts table (asked_kids table kids) ≡ interrupts table kids
 interrupts_asked table kids =
     ap (map (λ (row : Row). Interrupted row.number))

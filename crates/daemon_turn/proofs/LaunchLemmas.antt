@@ -13,21 +13,21 @@ use Rattle.spool_model.specs.Steps.{IsLegal, after_step, after_steps}
 use Rattle.step_runs.specs.Current.{IsCurrent, Kept}
 use Rattle.host_calls.specs.declared.store_fault.StoreFault.{StoreFault}
 use Rattle.host_calls.specs.declared.store_fault.StoreFault.TheVariants.{Memory}
-use Rattle.spool_store.specs.Making.{MayMakeSteps}
-use Rattle.spool_store.specs.Stepping.{MayStep}
+use Rattle.spool_store.specs.StepSequences.{MayMakeSteps}
+use Rattle.spool_store.specs.OneStep.{MayStep}
 use Rattle.spool_shows.proofs.Membership.{Has}
 use Rattle.daemon_turn.specs.declared.kid.Kid.{Kid}
 use Rattle.spool_model.specs.declared.turn_step.TurnStep.{TurnStep}
 use Rattle.spool_model.specs.declared.turn_step.TurnStep.TheVariants.{HandedOver, Ended}
-use Rattle.daemon_turn.specs.Starting.{start_steps, steps_of_starts}
+use Rattle.daemon_turn.specs.StartOrder.{start_steps, steps_of_starts}
 use Rattle.spool_model.specs.StepsOf.{number_of_step, steps_of_turn}
-use Rattle.daemon_turn.specs.inside.Going.{StartsPart, MakesPart, TurnPart, joined_parts, quiet_part}
-use Rattle.daemon_turn.specs.inside.Handing.{HandsJobOver}
-use Rattle.daemon_turn.specs.inside.Launching.{Launches}
-use Rattle.daemon_turn.specs.inside.Making.{MakesAll}
-use Rattle.daemon_turn.specs.inside.Waiting.{ArePendingNumbers, started_of}
+use Rattle.daemon_turn.specs.inside.TurnParts.{StartsPart, MakesPart, TurnPart, joined_parts, quiet_part}
+use Rattle.daemon_turn.specs.inside.StartedJob.{HandsJobOver}
+use Rattle.daemon_turn.specs.inside.StartedJobs.{Launches}
+use Rattle.daemon_turn.specs.inside.MadeSteps.{MakesAll}
+use Rattle.daemon_turn.specs.inside.PendingNumbers.{ArePendingNumbers, started_of}
 use Rattle.step_runs.proofs.ApartLemmas.{Apart, all_each, apart_differ, differ_apart, each_all}
-use Rattle.host_session.proofs.SessionLemmas.{stays_inside}
+use Rattle.host_calls.proofs.SessionLemmas.{stays_inside}
 use Rattle.step_runs.proofs.MadeLemmas.{no_steps_are_made}
 use Rattle.daemon_turn.proofs.GoLemmas.{asked_part, goes_none, goes_then, handed_part, hands_go, memory_goes, no_part}
 use Rattle.daemon_turn.proofs.HandLemmas.{started_entry}
@@ -41,13 +41,13 @@ started_runs table after number second legal is =
     (legal.0, second, started_entry table after number second legal is)
 
 pub may_end : (tells : Bool) (before between : Session) (old middle : World) (kept store : Kept) (number : ℕ) (second : ℤ) → IsLegal kept.table (Start number second) →
-    (tells ≡ true → (table : JobTable) × IsCurrent kept old.now.folder table) → HandsJobOver tells before between old middle kept number second (Ok (store, None)) →
+    (tells ≡ true → (table : JobTable) × IsCurrent kept old.now.directory table) → HandsJobOver tells before between old middle kept number second (Ok (store, None)) →
     MayMakeSteps tells between middle store (steps_of_turn (Ended number NotStarted ∷ []))
 may_end tells before between old middle kept store number second legal current hands = record {
   inside = hands.inside;
   legal = (started_runs kept.table store.table number second legal hands.table_is, tt);
   changes = (tt, tt);
-  current = λ known. (let first : (table : JobTable) × IsCurrent kept old.now.folder table = current known in
+  current = λ known. (let first : (table : JobTable) × IsCurrent kept old.now.directory table = current known in
       (after_step first.0 (Start number second), (hands.files known first.0 first.1).made.current));
 }
 
@@ -190,11 +190,11 @@ module _ (tells : Bool) (before between after : Session) (old middle new : World
   pub pending_now : IsPending now.table number
   pending_now = all_each (IsPending now.table) (number ∷ drop (count + 1) numbers) waiting_now.each number (inl refl)
 
-  pub may_start : (tells ≡ true → (table : JobTable) × IsCurrent kept old.now.folder table) → MayStep tells between middle now (Start number second)
+  pub may_start : (tells ≡ true → (table : JobTable) × IsCurrent kept old.now.directory table) → MayStep tells between middle now (Start number second)
   may_start current = record {
     inside = has.goes.inside;
     legal = pending_now;
-    current = λ known. (let first : (table : JobTable) × IsCurrent kept old.now.folder table = current known in
+    current = λ known. (let first : (table : JobTable) × IsCurrent kept old.now.directory table = current known in
         let gives : StartsPart first.0 has.part old middle (Ok now) = has.goes.files known first.0 first.1 in
         (after_steps first.0 (steps_of_turn has.part.steps), gives.ends.current));
   }

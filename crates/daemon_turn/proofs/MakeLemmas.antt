@@ -14,16 +14,16 @@ use Rattle.step_runs.specs.Made.{AreStopped}
 use Rattle.step_runs.proofs.MadeLemmas.{no_steps_are_made}
 use Rattle.host_calls.specs.declared.store_fault.StoreFault.{StoreFault}
 use Rattle.host_calls.specs.declared.store_fault.StoreFault.TheVariants.{Memory}
-use Rattle.spool_store.specs.Making.{MakesSteps, MayMakeSteps}
+use Rattle.spool_store.specs.StepSequences.{MakesSteps, MayMakeSteps}
 use Rattle.spool_store.proofs.MakeLemmas.{made_prefix}
 use Rattle.spool_store.proofs.SurplusLemmas.{may_forget}
-use Rattle.host_session.proofs.SessionLemmas.{stays_inside}
+use Rattle.host_calls.proofs.SessionLemmas.{stays_inside}
 use Rattle.spool_model.specs.declared.turn_step.TurnStep.{TurnStep}
 use Rattle.spool_model.specs.declared.turn_step.TurnStep.TheVariants.{Forgotten}
-use Rattle.daemon_turn.specs.Starting.{forgotten_steps}
+use Rattle.daemon_turn.specs.StartOrder.{forgotten_steps}
 use Rattle.spool_model.specs.StepsOf.{step_of, steps_of_turn}
-use Rattle.daemon_turn.specs.inside.Going.{MayMakePart}
-use Rattle.daemon_turn.specs.inside.Making.{MakesAll}
+use Rattle.daemon_turn.specs.inside.TurnParts.{MayMakePart}
+use Rattle.daemon_turn.specs.inside.MadeSteps.{MakesAll}
 use Rattle.daemon_turn.proofs.GoLemmas.{memory_goes}
 
 -- there was no memory for the steps

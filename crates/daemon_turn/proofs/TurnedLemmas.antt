@@ -19,16 +19,16 @@ use Rattle.spool_model.specs.declared.turn_step.TurnStep.{TurnStep}
 use Rattle.spool_model.specs.declared.turn_step.TurnStep.TheVariants.{Forgotten}
 use Rattle.daemon_turn.specs.Decisions.{asked_kids, decisions, end_steps, interrupts, questions, runs_in}
 use Rattle.daemon_turn.specs.Kids.{AreChildren, kept_kids, tells_end_of}
-use Rattle.daemon_turn.specs.Starting.{IsOrder, Turn, forgotten_steps, steps_of_starts}
+use Rattle.daemon_turn.specs.StartOrder.{IsOrder, Turn, forgotten_steps, steps_of_starts}
 use Rattle.spool_model.specs.StepsOf.{number_of_step, steps_of_turn}
 use Rattle.daemon_turn.specs.Turning.{AreFirstSteps, AreTurnSteps, with_forgets}
-use Rattle.daemon_turn.specs.inside.Deciding.{Decides, MayDecide}
+use Rattle.daemon_turn.specs.inside.Decisions.{Decides, MayDecide}
 use Rattle.daemon_turn.specs.inside.Ended.{without_ended}
-use Rattle.daemon_turn.specs.inside.Going.{StartsPart, MakesPart, MayMakePart, TurnPart, joined_parts, quiet_part}
-use Rattle.daemon_turn.specs.inside.Launching.{Launches}
-use Rattle.daemon_turn.specs.inside.Making.{MakesAll}
+use Rattle.daemon_turn.specs.inside.TurnParts.{StartsPart, MakesPart, MayMakePart, TurnPart, joined_parts, quiet_part}
+use Rattle.daemon_turn.specs.inside.StartedJobs.{Launches}
+use Rattle.daemon_turn.specs.inside.MadeSteps.{MakesAll}
 use Rattle.daemon_turn.specs.inside.Turned.{AreStepsBy, MakesTurn}
-use Rattle.daemon_turn.specs.inside.Waiting.{ArePendingNumbers, started_of}
+use Rattle.daemon_turn.specs.inside.PendingNumbers.{ArePendingNumbers, started_of}
 use Rattle.step_runs.proofs.ApartLemmas.{Apart, all_each, apart_append, apart_differ, apart_filter, differ_apart, rise_apart}
 use Rattle.daemon_turn.proofs.DecisionLemmas.{EachRuns, decided_run, kid_runs}
 use Rattle.daemon_turn.proofs.GoLemmas.{goes_then}
@@ -37,11 +37,11 @@ use Rattle.daemon_turn.proofs.LaunchLemmas.{start_numbers}
 use Rattle.daemon_turn.proofs.WaitLemmas.{waiting_after, waits_or_runs}
 
 -- what is kept is current after a part that was made
-pub may_go_on : (tells : Bool) (before after : Session) (old new : World) (kept now : Kept) (part : TurnPart) → (tells ≡ true → (table : JobTable) × IsCurrent kept old.now.folder table) →
+pub may_go_on : (tells : Bool) (before after : Session) (old new : World) (kept now : Kept) (part : TurnPart) → (tells ≡ true → (table : JobTable) × IsCurrent kept old.now.directory table) →
     MakesPart tells before after old new kept part (Ok now) → MayMakePart tells after new now
 may_go_on tells before after old new kept now part current goes = record {
   inside = goes.inside;
-  current = λ known. (let first : (table : JobTable) × IsCurrent kept old.now.folder table = current known in
+  current = λ known. (let first : (table : JobTable) × IsCurrent kept old.now.directory table = current known in
       let gives : StartsPart first.0 part old new (Ok now) = goes.files known first.0 first.1 in
       (after_steps first.0 (steps_of_turn part.steps), gives.ends.current));
 }
@@ -63,7 +63,7 @@ none_any test [] none = refl
 none_any test (step ∷ steps) none =
     ap (λ b. Rattle.std.proofs.Common.◌||◌ b (list_any test steps)) (none step (inl refl)) ∙ none_any test steps (λ other has. none other (inr has))
 
--- A turn with these kids, on what is kept.
+-- A turn with these children, on what is kept.
 module _ (tells : Bool) (before : Session) (old : World) (kept : Kept) (kids : List Kid) (order : List ℕ) (may : MayDecide tells before old kept kids) (waiting : ArePendingNumbers kept.table order) where
   each_runs : EachRuns kept.table kids
   each_runs = all_each (λ kid. runs_in kept.table kid ≡ true) kids may.run
@@ -71,7 +71,7 @@ module _ (tells : Bool) (before : Session) (old : World) (kept : Kept) (kids : L
   kids_apart : Apart (map (λ (kid : Kid). kid.number) kids)
   kids_apart = rise_apart (λ (kid : Kid). kid.number) kids may.ordered
 
-  -- After what was decided:
+  -- After what was finished:
   module _ (first : Session) (decided_at : World) (left : List Kid) (was is : List TurnStep) (none : was ≡ []) where
     -- the jobs that start still wait
     pub order_waiting : (now : Kept) → Decides tells before first old decided_at kept kids left was is (Ok now) → ArePendingNumbers now.table order
@@ -85,7 +85,7 @@ module _ (tells : Bool) (before : Session) (old : World) (kept : Kept) (kids : L
 
     module _ (after : Session) (steps : List TurnStep) (added more : List Kid) (flags : List Bool) (more_is : more ≡ without_ended steps kids ++ added)
         (children_are : after.children ≡ before.children ++ map (λ (kid : Kid). kid.child) added) (numbered : map (λ (kid : Kid). kid.number) added ≡ started_of order flags) where
-      -- each kid has a child of the host
+      -- each child has a child of the host
       child_there : (kid : Kid) → Has (without_ended steps kids ++ added) kid → Contains after.children kid.child
       child_there kid has = subst (λ (l : List Child). Contains l kid.child) (sym children_are) (elim (has_either (without_ended steps kids) added kid has) [
         | inl stays ↦ contains_left before.children (map (λ (one : Kid). one.child) added) kid.child
@@ -97,7 +97,7 @@ module _ (tells : Bool) (before : Session) (old : World) (kept : Kept) (kids : L
       more_children : AreChildren after.children more
       more_children = record { each = λ kid has. child_there kid (has_contained (without_ended steps kids ++ added) kid (subst (λ (l : List Kid). Contains l kid) more_is has)) }
 
-      -- no two kids have one number
+      -- no two children have one number
       stays_apart : (number : ℕ) → Has (map (λ (kid : Kid). kid.number) (without_ended steps kids)) number → Has (map (λ (kid : Kid). kid.number) added) number → ⊥
       stays_apart number one other =
           let kid : (kid : Kid) × Has (without_ended steps kids) kid × (kid.number ≡ number) = made_has (λ (kid : Kid). kid.number) (without_ended steps kids) number one in
@@ -203,7 +203,7 @@ module _ (tells : Bool) (before : Session) (old : World) (kept : Kept) (kids : L
           both_written : reported ≡ deciding.steps ++ starting.steps
           both_written = launches.written ∙ ap (λ (l : List TurnStep). l ++ starting.steps) written_first
 
-          -- starts, and what is forgotten, tell of no end of a kid
+          -- starts, and what is forgotten, tell of no end of a child
           starts_no_end : (kid : Kid) → runs_in kept.table kid ≡ true → list_any (tells_end_of kid.number) starting.steps ≡ false
           starts_no_end kid runs = no_end_of kid.number starting.steps (λ has.
               (let prefix : List TurnStep = starting.steps ++ starting.next in

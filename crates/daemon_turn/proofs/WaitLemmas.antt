@@ -17,9 +17,9 @@ use Rattle.spool_shows.proofs.Membership.{Has, has_contained, has_either}
 use Rattle.daemon_turn.specs.declared.mode.Mode.{Mode}
 use Rattle.daemon_turn.specs.declared.mode.Mode.TheVariants.{Full, EndsOnly}
 use Rattle.spool_model.specs.declared.turn_step.TurnStep.{TurnStep}
-use Rattle.daemon_turn.specs.Starting.{IsBatchOrderWhere, IsFullOrder, IsOrder, IsOrderIn, Turn, has_batch_turn}
+use Rattle.daemon_turn.specs.StartOrder.{IsBatchOrderWhere, IsFullOrder, IsOrder, IsOrderIn, Turn, has_batch_turn}
 use Rattle.spool_model.specs.StepsOf.{number_of_step, steps_of_turn}
-use Rattle.daemon_turn.specs.inside.Waiting.{ArePendingNumbers}
+use Rattle.daemon_turn.specs.inside.PendingNumbers.{ArePendingNumbers}
 use Rattle.step_runs.proofs.ApartLemmas.{Apart, all_each, apart_append, apart_differ, differ_apart, each_all}
 use Rattle.daemon_turn.proofs.LegalLemmas.{entries_stay}
 use Rattle.step_runs.proofs.RowLemmas.{row_held, rows_apart}

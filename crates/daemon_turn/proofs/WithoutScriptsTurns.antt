@@ -21,7 +21,7 @@ use Rattle.spool_model.specs.declared.turn_step.TurnStep.{TurnStep}
 use Rattle.spool_model.specs.declared.turn_step.TurnStep.TheVariants.{HandedOver, Ended, Interrupted, Forgotten}
 use Rattle.daemon_turn.specs.Decisions.{asked_kids, decisions, end_steps, interrupts, is_job_without_kid, is_running_entry, runs_in}
 use Rattle.daemon_turn.specs.Kids.{AreKidsAfter, kept_kids, tells_end_of}
-use Rattle.daemon_turn.specs.Starting.{IsBatchOrderWhere, IsOrder, IsOrderIn, Turn, forgotten_steps, has_batch_turn, steps_of_starts}
+use Rattle.daemon_turn.specs.StartOrder.{IsBatchOrderWhere, IsOrder, IsOrderIn, Turn, forgotten_steps, has_batch_turn, steps_of_starts}
 use Rattle.spool_model.specs.StepsOf.{step_of, steps_of_turn}
 use Rattle.daemon_turn.specs.Turning.{AreFirstSteps, AreTurnSteps, with_forgets}
 use Rattle.step_runs.proofs.ApartLemmas.{filter_alike}

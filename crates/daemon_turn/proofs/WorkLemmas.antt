@@ -27,42 +27,42 @@ use Rattle.step_runs.proofs.MadeLemmas.{prefixes_changed, prefixes_then, made_st
 use Rattle.host_calls.specs.declared.store_fault.StoreFault.{StoreFault}
 use Rattle.host_calls.specs.declared.store_fault.StoreFault.TheVariants as fault
 use Rattle.host_calls.specs.StoreFaults.{IsReadingFault, IsOfStep}
-use Rattle.spool_store.specs.Recovering.{IsRecovered, Recovered, ShowsTheSame}
+use Rattle.spool_store.specs.Recovery.{IsRecovered, Recovered, ShowsTheSame}
 use Rattle.daemon_turn.specs.declared.kid.Kid.{Kid}
 use Rattle.spool_model.specs.declared.turn_step.TurnStep.{TurnStep}
 use Rattle.daemon_turn.specs.Decisions.{asked_kids, is_running_entry, questions, runs_in}
 use Rattle.daemon_turn.specs.Kids.{AreKidsByNumber, AreChildren, AreKidsAfter, KeepsChildren, kept_kids, tells_end_of}
-use Rattle.daemon_turn.specs.Leaving.{TurnHandsOver, IsTurnIdle, IsTurnStopped, IsTurnDone, DaemonAt, TurnLeaves}
-use Rattle.daemon_turn.specs.Starting.{Turn}
+use Rattle.daemon_turn.specs.TurnOutcome.{TurnHandsOver, IsTurnIdle, IsTurnStopped, IsTurnDone, DaemonAt, TurnLeaves}
+use Rattle.daemon_turn.specs.StartOrder.{Turn}
 use Rattle.spool_model.specs.StepsOf.{steps_of_turn}
-use Rattle.daemon_turn.specs.inside.Deciding.{MayDecide}
+use Rattle.daemon_turn.specs.inside.Decisions.{MayDecide}
 use Rattle.daemon_turn.specs.inside.Ended.{without_ended}
-use Rattle.daemon_turn.specs.inside.Going.{StartsPart, MakesPart, TurnPart}
+use Rattle.daemon_turn.specs.inside.TurnParts.{StartsPart, MakesPart, TurnPart}
 use Rattle.daemon_turn.specs.inside.Turned.{MakesTurn}
-use Rattle.host_session.specs.Ends.{end_after}
-use Rattle.daemon_turn.specs.inside.Working.{TurnsOn, TurnWorks, unit_of}
+use Rattle.host_calls.specs.SessionEnds.{end_after}
+use Rattle.daemon_turn.specs.inside.TurnWork.{TurnsOn, TurnWorks, unit_of}
 use Rattle.step_runs.proofs.ApartLemmas.{all_each, each_all, rise_filter}
 use Rattle.daemon_turn.proofs.AskLemmas.{questions_of_none}
 use Rattle.daemon_turn.proofs.WithoutScriptsTurns.{asked_alike, first_alike, kids_after_alike, turn_alike}
 use Rattle.daemon_turn.proofs.DecisionLemmas.{asked_run}
 use Rattle.daemon_turn.proofs.GoLemmas.{asked_part, memory_goes, steps_join}
-use Rattle.host_session.proofs.SessionLemmas.{counts_on, stays_inside}
+use Rattle.host_calls.proofs.SessionLemmas.{counts_on, stays_inside}
 use Rattle.daemon_turn.proofs.KidLemmas.{kids_stay}
 
--- The kids whose jobs run.
+-- The children whose jobs run.
 
 all_kept : (test : Kid → Bool) (kids : List Kid) → ((kid : Kid) → Has kids kid → test kid ≡ true) → filter test kids ≡ kids
 all_kept test [] each = refl
 all_kept test (kid ∷ kids) each =
     ap (λ b. cond b (kid ∷ filter test kids) (filter test kids)) (each kid (inl refl)) ∙ ap (λ (l : List Kid). kid ∷ l) (all_kept test kids (λ other has. each other (inr has)))
 
--- kids whose jobs all run are all asked
+-- children whose jobs all run are all asked
 pub asked_itself : (table : JobTable) (kids : List Kid) → All (λ kid. runs_in table kid ≡ true) kids → kids ≡ asked_kids table kids
 asked_itself table kids run = sym (all_kept (runs_in table) kids (all_each (λ kid. runs_in table kid ≡ true) kids run))
 
--- The kids after a recovery may be asked.
+-- The children after a recovery may be asked.
 pub may_decide : (tells : Bool) (before after : Session) (old new : World) (kept : Kept) (kids left : List Kid) → left ≡ asked_kids kept.table kids → AreKidsByNumber kids → AreChildren before.children kids →
-    StaysInside before after → (tells ≡ true → IsRecovered old.now.folder new.now.folder kept) → MayDecide tells after new kept left
+    StaysInside before after → (tells ≡ true → IsRecovered old.now.directory new.now.directory kept) → MayDecide tells after new kept left
 may_decide tells before after old new kept kids left is ordered children stays recovered =
     subst (MayDecide tells after new kept) (sym is) (record {
       go = record { inside = stays.inside; current = λ known. ((recovered known).table, (recovered known).current) };
@@ -100,7 +100,7 @@ unplanned tells session world kept turn kids was (Err other) err may none are = 
   children = may.children;
 }
 
--- The steps were made, and the kids brought into order.
+-- The steps were made, and the children brought into order.
 pub ordered_kids : (tells : Bool) (before after : Session) (old new : World) (kept : Kept) (turn : Turn) (left sorted : List Kid) (report : List TurnStep) (outcome : Result Kept StoreFault) (result : Result (Unit {0}) StoreFault) →
     result ≡ unit_of outcome → MakesTurn tells before after old new kept turn left report outcome → IsPermutation left sorted → AreKidsByNumber sorted →
     TurnsOn tells before after old new kept turn sorted report result
@@ -130,8 +130,8 @@ standing session world kids limit interval = record { session = session; world =
 no_children : (session : Session) → KeepsChildren session.children session.children
 no_children session = ([], sym (append-nil session.children))
 
-module _ (tells : Bool) (turn : Turn) (before after : Session) (old new : World) (kids : List Kid) (limit interval : ℕ) (was : List TurnStep) (none : was ≡ []) (changes : tells ≡ true → ChangesFiles (ShowsAsBefore old.now.folder) old new) where
-  idle : tells ≡ true → ShowsTheSame old.now.folder new.now.folder → IsTurnIdle was (standing before old kids limit interval) (standing after new kids limit interval)
+module _ (tells : Bool) (turn : Turn) (before after : Session) (old new : World) (kids : List Kid) (limit interval : ℕ) (was : List TurnStep) (none : was ≡ []) (changes : tells ≡ true → ChangesFiles (ShowsAsBefore old.now.directory) old new) where
+  idle : tells ≡ true → ShowsTheSame old.now.directory new.now.directory → IsTurnIdle was (standing before old kids limit interval) (standing after new kids limit interval)
   idle known shown = record {
     none = record { none = none; kids = refl };
     unbegun = recoveries_begin_nothing old new (changes known);
@@ -139,7 +139,7 @@ module _ (tells : Bool) (turn : Turn) (before after : Session) (old new : World)
     asked = (changes known).asked;
   }
 
-  leaves_by : (of : StoreFault) → IsReadingFault of → (tells ≡ true → Recovered old.now.folder new.now.folder (Err of)) →
+  leaves_by : (of : StoreFault) → IsReadingFault of → (tells ≡ true → Recovered old.now.directory new.now.directory (Err of)) →
       (tells ≡ true → IfDamaged {T = Kept} fault.Damaged (λ damage. reading new ≡ reading old) (Err of)) → tells ≡ true →
       TurnLeaves turn was (standing before old kids limit interval) (standing after new kids limit interval) (end_after (Err of))
   leaves_by fault.FileFault reads recovered untouched known = inl (idle known (recovered known))
@@ -149,7 +149,7 @@ module _ (tells : Bool) (turn : Turn) (before after : Session) (old new : World)
   leaves_by _ reads recovered untouched known = absurd reads
 
   pub unrecovered : (of : StoreFault) (result : Result (Unit {0}) StoreFault) → IsErrAnd result (λ other. other ≡ of) → CallsInside {T = Kept} fault.FileFault before after (Err of) → IsReadingFault of →
-      (tells ≡ true → Recovered old.now.folder new.now.folder (Err of)) → (tells ≡ true → IfDamaged {T = Kept} fault.Damaged (λ damage. reading new ≡ reading old) (Err of)) →
+      (tells ≡ true → Recovered old.now.directory new.now.directory (Err of)) → (tells ≡ true → IfDamaged {T = Kept} fault.Damaged (λ damage. reading new ≡ reading old) (Err of)) →
       AreChildren before.children kids → AreKidsByNumber kids →
       TurnWorks tells turn (standing before old kids limit interval) (standing after new kids limit interval) was result
   unrecovered of (Ok done) err inside reads recovered untouched children ordered = absurd err
@@ -176,7 +176,7 @@ step_reads fault.Memory is = tt
 step_reads _ is = absurd is
 
 module _ (tells : Bool) (turn : Turn) (before between after : Session) (old middle new : World) (kept : Kept) (left : List Kid) (limit interval : ℕ) (report : List TurnStep) (stays : CallsInside {T = Kept} fault.FileFault before between (Ok kept))
-    (changes : tells ≡ true → ChangesFiles (ShowsAsBefore old.now.folder) old middle) (recovered : tells ≡ true → IsRecovered old.now.folder middle.now.folder kept) where
+    (changes : tells ≡ true → ChangesFiles (ShowsAsBefore old.now.directory) old middle) (recovered : tells ≡ true → IsRecovered old.now.directory middle.now.directory kept) where
   abbrev at_first : DaemonAt
   at_first = standing before old turn.kids limit interval
 
@@ -191,7 +191,7 @@ module _ (tells : Bool) (turn : Turn) (before between after : Session) (old midd
     without_scripts_table : kept.table ≡ without_scripts shown
     without_scripts_table = (recovered known).current.without_scripts_is
 
-    abbrev changed : ChangesFiles (ShowsAsBefore old.now.folder) old middle
+    abbrev changed : ChangesFiles (ShowsAsBefore old.now.directory) old middle
     changed = changes known
 
     gave_by : (given : List Handed) → new.now.handed ≡ middle.now.handed ++ given → Rattle.step_runs.specs.Hands.Hands shown (steps_of_turn part.steps) given → HandsPrefixes middle new →
@@ -199,7 +199,7 @@ module _ (tells : Bool) (turn : Turn) (before between after : Session) (old midd
     gave_by given handed hands prefixes questions_are numbered = record {
       handed = handed ∙ ap (λ (l : List Handed). l ++ given) changed.handed;
       hands = hands;
-      prefixes = prefixes_then old middle new given (prefixes_changed (ShowsAsBefore old.now.folder) old middle changed) prefixes handed;
+      prefixes = prefixes_then old middle new given (prefixes_changed (ShowsAsBefore old.now.directory) old middle changed) prefixes handed;
       asked = questions_are ∙ ap (λ l. l ++ part.questions) changed.asked
           ∙ ap (λ l. old.asked ++ l) (asked ∙ ap (λ (table : JobTable). questions (asked_kids table turn.kids) answers) without_scripts_table ∙ ap (λ (l : List Kid). questions l answers) (asked_alike shown turn.kids));
       added = part.added;

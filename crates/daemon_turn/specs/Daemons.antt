@@ -4,14 +4,14 @@ use Rattle.std.specs.Coded.{Coded, code_by, coded×, coded_ℕ, coded_list}
 use Rattle.daemon_turn.specs.contracts.kid.Kid as kid
 use Rattle.daemon_turn.specs.declared.kid.Kid.{Kid}
 
--- What a daemon keeps: its kids, by number, the limit of the load in hundredths, and how many seconds lie between two
--- starts in batch queues.
+-- What a daemon keeps: its children, by number, the limit of the load in hundredths, and how many seconds lie between
+-- two starts in batch queues.
 pub record DaemonState : Type 0 where
   pub kids : List Kid
   pub limit : ℕ
   pub interval : ℕ
 
--- the watch of a daemon that has no kids
+-- the watch of a daemon that has no children
 abbrev pub new_daemon : ℕ → ℕ → DaemonState
 new_daemon limit interval = record { kids = []; limit = limit; interval = interval }
 

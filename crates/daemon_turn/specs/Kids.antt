@@ -1,4 +1,4 @@
--- The kids of a daemon: between two turns, and after a turn (own).
+-- The children of a daemon: between two turns, and after a turn (own).
 use Rattle.std.specs.Prelude.{◌≡◌, ◌<◌, ◌&&◌, ◌==◌, ◌++◌, ℕ, Bool, false, not, List, AllPairs, Contains, IsPermutation, filter, map}
 use Rattle.std.specs.List.{list_any}
 use Rattle.host_calls.specs.declared.child.Child.{Child}
@@ -9,11 +9,11 @@ use Rattle.spool_model.specs.declared.turn_step.TurnStep.{TurnStep}
 use Rattle.spool_model.specs.declared.turn_step.TurnStep.TheVariants.{HandedOver, Ended, Interrupted, Forgotten}
 use Rattle.daemon_turn.specs.Decisions.{runs_in}
 
--- the numbers of the kids rise
+-- the numbers of the children rise
 abbrev pub AreKidsByNumber : List Kid → Type 0
 AreKidsByNumber kids = AllPairs (λ one other. one.number < other.number) kids
 
--- each kid has one of the children
+-- each child has one of the children
 pub record AreChildren (children : List Child) (kids : List Kid) : Type 0 where
   pub each : (kid : Kid) → Contains kids kid → Contains children kid.child
 
@@ -28,7 +28,7 @@ tells_end_of number (HandedOver other second) = false
 tells_end_of number (Interrupted other) = false
 tells_end_of number (Forgotten other) = false
 
--- the kids that stay: those whose job ran, and of which the steps tell no end
+-- the children that stay: those whose job ran, and of which the steps tell no end
 abbrev pub kept_kids : JobTable → List TurnStep → List Kid → List Kid
 kept_kids table steps kids = filter (λ kid. runs_in table kid && not (list_any (tells_end_of kid.number) steps)) kids
 
@@ -36,7 +36,7 @@ kept_kids table steps kids = filter (λ kid. runs_in table kid && not (list_any 
 abbrev pub started_numbers : List Handed → List ℕ
 started_numbers given = map (λ handed. handed.number) (filter (λ handed. handed.started) given)
 
--- The kids after the steps, by number: those that stay, and those that were added.
+-- The children after the steps, by number: those that stay, and those that were added.
 pub record AreKidsAfter (table : JobTable) (steps : List TurnStep) (before added after : List Kid) : Type 0 where
   pub same : IsPermutation (kept_kids table steps before ++ added) after
   pub ordered : AreKidsByNumber after

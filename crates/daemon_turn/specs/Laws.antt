@@ -1,16 +1,17 @@
--- What follows of every turn: why it ends as it does, and that a folder that shows a table comes to show no damage (own).
+-- What follows of every turn: why it ends as it does, and that a directory that shows a table comes to show no damage
+-- (own).
 use Rattle.std.specs.Prelude.{◌≡◌, Bool, true, List, Ok}
 use Rattle.host_calls.specs.Causes.{Rose}
-use Rattle.host_calls.specs.Folder.{Files, IsImage}
+use Rattle.host_calls.specs.Directory.{Files, IsImage}
 use Rattle.host_calls.specs.World.{HasEachImage, LeavesOnly, reading}
 use Rattle.spool_model.specs.JobTable.{JobTable}
 use Rattle.spool_shows.specs.Shown.{shown_by}
 use Rattle.step_runs.specs.Good.{IsGood}
 use Rattle.daemon_turn.specs.declared.turn_input.TurnInput.{TurnInput}
-use Rattle.host_session.specs.declared.turn_end.TurnEnd.{TurnEnd}
-use Rattle.host_session.specs.declared.turn_end.TurnEnd.TheVariants.{Done, Memory}
+use Rattle.host_calls.specs.declared.turn_end.TurnEnd.{TurnEnd}
+use Rattle.host_calls.specs.declared.turn_end.TurnEnd.TheVariants.{Done, Memory}
 use Rattle.spool_model.specs.declared.turn_step.TurnStep.{TurnStep}
-use Rattle.daemon_turn.specs.Leaving.{DaemonAt, TurnsTo}
+use Rattle.daemon_turn.specs.TurnOutcome.{DaemonAt, TurnsTo}
 
 -- all steps were made, or memory was wanting
 abbrev pub IsDoneOrMemory : TurnEnd → Type 0
@@ -37,7 +38,7 @@ pub record StaysGood (old new : DaemonAt) : Type 0 where
   pub now : HasEachImage (λ image handed. IsGood image) new.world.now
 
 -- where each image shows a table, each that a turn leaves shows one
-abbrev pub GoodFoldersStayGood : Type 0
-GoodFoldersStayGood = (tells alone : Bool) (at : TurnInput) (old new : DaemonAt) (end : TurnEnd) (steps : List TurnStep) →
+abbrev pub GoodDirectoriesStayGood : Type 0
+GoodDirectoriesStayGood = (tells alone : Bool) (at : TurnInput) (old new : DaemonAt) (end : TurnEnd) (steps : List TurnStep) →
     TurnsTo tells alone at old new end steps → tells ≡ true → alone ≡ true →
-    ((image : Files) → IsImage old.world.now.folder image → IsGood image) → StaysGood old new
+    ((image : Files) → IsImage old.world.now.directory image → IsGood image) → StaysGood old new

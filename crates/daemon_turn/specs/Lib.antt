@@ -2,8 +2,8 @@ pub mod Daemons
 pub mod Decisions
 pub mod Kids
 pub mod Laws
-pub mod Leaving
-pub mod Starting
+pub mod TurnOutcome
+pub mod StartOrder
 pub mod Turning
 pub mod Twice
 pub mod inside

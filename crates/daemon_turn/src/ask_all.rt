@@ -1,7 +1,7 @@
-//! Kids are asked whether they have ended.
+//! Children are asked whether they have ended.
 ghost use Rattle.std.specs.Prelude.{◌≡◌, ◌++◌, OnOk};
 ghost use Rattle.host_calls.specs.Session.{IsInside, StaysInside};
-ghost use Rattle.daemon_turn.specs.inside.Asking.{AsksAll};
+ghost use Rattle.daemon_turn.specs.inside.AskedChildren.{AsksAll};
 ghost use Rattle.daemon_turn.specs.Kids.{AreChildren};
 ghost use Rattle.daemon_turn.specs.Decisions.{end_of};
 
@@ -10,7 +10,7 @@ use host_calls::{Ending, Host};
 use std::alloc::{AllocError, Global};
 
 impl Turning {
-    // Asks each of the kids, in order, and gives the ends that they tell.
+    // Asks each of the children, in order, and gives the ends that they tell.
     pub(crate) fn ask_all<H: Host>(
         &self,
         alloc: Global,

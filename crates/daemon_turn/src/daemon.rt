@@ -1,22 +1,21 @@
 //! The daemon: it keeps the children that it started, and makes turns.
-ghost use Rattle.clock_range.specs.ClockRange.{IsClockSecond};
+ghost use Rattle.host_calls.specs.ClockRange.{IsClockSecond};
 ghost use Rattle.std.specs.Prelude.{◌≡◌};
 ghost use Rattle.host_calls.specs.Session.{IsOutside};
 ghost use Rattle.daemon_turn.specs.Daemons.{new_daemon};
 ghost use Rattle.daemon_turn.specs.Kids.{AreKidsByNumber, AreChildren};
-ghost use Rattle.daemon_turn.specs.Leaving.{TurnsTo};
+ghost use Rattle.daemon_turn.specs.TurnOutcome.{TurnsTo};
 
 use crate::{
     Kid, Mode, TurnEnd, TurnInput, TurnReport, TurnStep, TurnSteps, Turning, end_of_session,
 };
-use host_calls::Host;
-use host_session::in_session;
+use host_calls::{Host, in_session};
 use std::alloc::Global;
 use std::marker::Model;
 use std::mem;
 
-/// A daemon: its kids, by number, the limit of the load in hundredths, and how many seconds lie between two starts in
-/// batch queues.
+/// A daemon: its children, by number, the limit of the load in hundredths, and how many seconds lie between two
+/// starts in batch queues.
 #[derive(Drop)]
 pub struct Daemon {
     kids: Vec<Kid>,
@@ -38,7 +37,7 @@ impl Model for Daemon {
 }
 
 impl Daemon {
-    /// A daemon without kids. It takes no memory.
+    /// A daemon without children. It takes no memory.
     pub fn new(alloc: Global, limit: u32, interval: u32) -> Daemon
         ensures { result ≡ new_daemon limit interval }
     {
@@ -63,7 +62,7 @@ impl Daemon {
         self.interval
     }
 
-    /// The kids, by number.
+    /// The children, by number.
     pub fn kids(&self) -> &[Kid]
         ensures kids { result.now ≡ self.now.kids }
         ensures ordered { AreKidsByNumber result.now }
@@ -71,8 +70,8 @@ impl Daemon {
         self.kids.as_slice()
     }
 
-    /// Makes one turn: gives up the jobs that run and that no kid names, asks the kids and ends the jobs of those that
-    /// have ended, starts the jobs that are due, and forgets the lowest done numbers.
+    /// Makes one turn: gives up the jobs that run and that no child names, asks the children and ends the jobs of
+    /// those that have ended, starts the jobs that are due, and forgets the lowest done numbers.
     pub fn turn<H: Host>(
         &mut self,
         alloc: Global,

@@ -1,6 +1,6 @@
 //! How many done jobs a turn leaves.
 ghost use Rattle.std.specs.Prelude.{◌≡◌, IfOk};
-ghost use Rattle.daemon_turn.specs.Starting.{forgotten_steps};
+ghost use Rattle.daemon_turn.specs.StartOrder.{forgotten_steps};
 
 use crate::TurnStep;
 use spool_store::Store;

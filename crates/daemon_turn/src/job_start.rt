@@ -1,13 +1,13 @@
-//! One job is started, and its script handed over.
-ghost use Rattle.clock_range.specs.ClockRange.{IsClockSecond};
-ghost use Rattle.host_calls.specs.Folder.{Folder, reading_of};
+//! One job is started, and its script started.
+ghost use Rattle.host_calls.specs.ClockRange.{IsClockSecond};
+ghost use Rattle.host_calls.specs.Directory.{Directory, reading_of};
 ghost use Rattle.step_runs.specs.Current.{IsCurrent};
 ghost use Rattle.step_runs.specs.Made.{IsScriptFile};
 ghost use Rattle.spool_model.specs.declared.step.Step.TheVariants.{Start};
 ghost use Rattle.spool_model.specs.JobTable.{JobTable};
 ghost use Rattle.spool_store.specs.Listed.{IsLive};
-ghost use Rattle.spool_store.specs.Stepping.{MayStep};
-ghost use Rattle.daemon_turn.specs.inside.Handing.{HandsJobOver};
+ghost use Rattle.spool_store.specs.OneStep.{MayStep};
+ghost use Rattle.daemon_turn.specs.inside.StartedJob.{HandsJobOver};
 
 use host_calls::{Child, Host, Name, StartFault};
 use job_name::JobName;
@@ -42,8 +42,8 @@ pub(crate) fn start_job<H: Host>(
 // The name of the live job's file, and how nice its script runs.
 fn script_file(store: &Store, number: u32) -> (Name, u8)
     requires { IsLive store.now.table number }
-    ensures { (folder : Folder) (table : JobTable) → IsCurrent store.now folder table
-        → IsScriptFile table (reading_of folder) number result.0 result.1 }
+    ensures { (directory : Directory) (table : JobTable) → IsCurrent store.now directory table
+        → IsScriptFile table (reading_of directory) number result.0 result.1 }
 {
     let name = store.file(number).unwrap();
     let job = JobName::read(name.as_bytes()).unwrap();

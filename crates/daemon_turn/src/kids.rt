@@ -1,4 +1,4 @@
-//! The kids of a daemon, in the order of their numbers.
+//! The children of a daemon, in the order of their numbers.
 ghost use Rattle.std.specs.Prelude.{◌≡◌, IsPermutation, map};
 ghost use Rattle.std.specs.List.{list_any};
 ghost use Rattle.queue_rules.specs.Order.{Differ};
@@ -8,7 +8,7 @@ ghost use Rattle.daemon_turn.specs.inside.Ended.{AreEndsByNumber, without_ended}
 
 use crate::{Kid, TurnStep};
 
-// Whether one of the kids has the number.
+// Whether one of the children has the number.
 pub(crate) fn has_kid(kids: &[Kid], number: u32) -> bool
     requires { AreKidsByNumber kids.now }
     ensures { result ≡ has_kid kids.now number }
@@ -16,7 +16,7 @@ pub(crate) fn has_kid(kids: &[Kid], number: u32) -> bool
     kids.binary_search_by_key(&number, |kid| kid.number).is_ok()
 }
 
-// Drops the kids of which the ends tell.
+// Drops the children of which the ends tell.
 pub(crate) fn drop_ended(kids: &mut Vec<Kid>, ended: &[TurnStep])
     requires { AreEndsByNumber ended.now }
     ensures { kids.new.items ≡ without_ended ended.now kids.old.items }
@@ -34,7 +34,7 @@ fn has_ended(ended: &[TurnStep], number: u32) -> bool
         .is_ok()
 }
 
-// Brings the kids into the order of their numbers. It takes no memory.
+// Brings the children into the order of their numbers. It takes no memory.
 pub(crate) fn sort_kids(kids: &mut Vec<Kid>)
     requires { Differ (map (λ kid. kid.number) kids.old.items) }
     ensures same { IsPermutation kids.old.items kids.new.items }

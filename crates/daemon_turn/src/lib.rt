@@ -21,7 +21,7 @@ mod turning;
 mod twice;
 
 pub use daemon::Daemon;
-pub use host_session::{TurnEnd, end_of_session};
+pub use host_calls::{TurnEnd, end_of_session};
 pub use kid::Kid;
 pub use laws::turns_end_well;
 pub use mode::Mode;

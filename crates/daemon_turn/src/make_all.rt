@@ -1,7 +1,7 @@
-//! Steps that hand nothing over.
+//! Steps that starts nothing.
 ghost use Rattle.std.specs.Prelude.{◌≡◌, IfOk};
-ghost use Rattle.spool_store.specs.Making.{MayMakeSteps};
-ghost use Rattle.daemon_turn.specs.inside.Making.{MakesAll};
+ghost use Rattle.spool_store.specs.StepSequences.{MayMakeSteps};
+ghost use Rattle.daemon_turn.specs.inside.MadeSteps.{MakesAll};
 ghost use Rattle.spool_model.specs.StepsOf.{steps_of_turn};
 
 use crate::{TurnStep, Turning};

@@ -1,13 +1,13 @@
 //! What a turn will do is known before its first step.
-ghost use Rattle.clock_range.specs.ClockRange.{IsClockSecond};
-ghost use Rattle.due_lines.specs.declared.due.Due.{Due};
+ghost use Rattle.host_calls.specs.ClockRange.{IsClockSecond};
+ghost use Rattle.queue_rules.specs.declared.due.Due.{Due};
 ghost use Rattle.std.specs.Prelude.{◌≡◌, ◌∷◌, [], List, IfOk, IfSome, IfNone, filter, map, option_to_list};
 ghost use Rattle.daemon_turn.specs.Decisions.{interrupts, is_job_without_kid};
 ghost use Rattle.daemon_turn.specs.Kids.{AreKidsByNumber};
-ghost use Rattle.daemon_turn.specs.Starting.{IsBatchOrderWhere, IsFullOrder, IsOrder, turn_of};
+ghost use Rattle.daemon_turn.specs.StartOrder.{IsBatchOrderWhere, IsFullOrder, IsOrder, turn_of};
 ghost use Rattle.daemon_turn.specs.declared.kid.Kid.{Kid};
 ghost use Rattle.spool_model.specs.declared.turn_step.TurnStep.TheVariants.{Interrupted};
-ghost use Rattle.daemon_turn.specs.inside.Planning.{IsPlan};
+ghost use Rattle.daemon_turn.specs.inside.TurnPlan.{IsPlan};
 ghost use Rattle.queue_rules.specs.Queues.{may_start_batch};
 
 use crate::kids::has_kid;
@@ -20,13 +20,13 @@ use std::alloc::{AllocError, Global};
 // What a turn will do on a store.
 #[derive(Drop)]
 pub(crate) struct TurnPlan {
-    // The steps that give up the jobs that run and have no kid.
+    // The steps that give up the jobs that run and have no child.
     pub(crate) interrupted: Vec<TurnStep>,
     // The numbers of the jobs that start, in order.
     pub(crate) order: Vec<u32>,
 }
 
-// The plan of a turn with these kids on the store.
+// The plan of a turn with these children on the store.
 pub(crate) fn turn_plan(
     alloc: Global,
     store: &Store,
@@ -45,7 +45,7 @@ pub(crate) fn turn_plan(
     Ok(TurnPlan { interrupted, order })
 }
 
-// The steps that give up the jobs that run and have no kid.
+// The steps that give up the jobs that run and have no child.
 fn interrupted_steps(
     alloc: Global,
     store: &Store,
@@ -68,7 +68,7 @@ fn interrupts(alloc: Global, rows: &[Row], kids: &[Kid]) -> Result<Vec<TurnStep>
         .collect(alloc)
 }
 
-// Whether the job runs and has no kid.
+// Whether the job runs and has no child.
 fn is_job_without_kid(row: &Row, kids: &[Kid]) -> bool
     requires { AreKidsByNumber kids.now }
     ensures { result ≡ is_job_without_kid kids.now row.now }
@@ -116,19 +116,19 @@ fn full_order(
 }
 
 // The numbers of jobs in line.
-fn numbers_of_dues(alloc: Global, dues: &[Due]) -> Result<Vec<u32>, AllocError>
-    ensures { IfOk result (λ numbers. numbers.items ≡ map (λ due. due.number) dues.now) }
+fn numbers_of_dues(alloc: Global, due_jobs: &[Due]) -> Result<Vec<u32>, AllocError>
+    ensures { IfOk result (λ numbers. numbers.items ≡ map (λ due. due.number) due_jobs.now) }
 {
-    dues.iter().map(|due| due.number).collect(alloc)
+    due_jobs.iter().map(|due| due.number).collect(alloc)
 }
 
 // The number of the first job in line.
-fn first_of(dues: &[Due]) -> Option<u32>
+fn first_of(due_jobs: &[Due]) -> Option<u32>
     ensures some { IfSome result (λ number. (due : Due) × (later : List Due)
-        × (dues.now ≡ due ∷ later) × (number ≡ due.number)) }
-    ensures none { IfNone result (dues.now ≡ []) }
+        × (due_jobs.now ≡ due ∷ later) × (number ≡ due.number)) }
+    ensures none { IfNone result (due_jobs.now ≡ []) }
 {
-    let due = dues.first()?;
+    let due = due_jobs.first()?;
     Some(due.number)
 }
 

@@ -1,11 +1,11 @@
 //! Jobs are started one after another.
-ghost use Rattle.clock_range.specs.ClockRange.{IsClockSecond};
+ghost use Rattle.host_calls.specs.ClockRange.{IsClockSecond};
 ghost use Rattle.std.specs.Prelude.{[], ◌∷◌};
 ghost use Rattle.spool_model.specs.declared.step.Step.TheVariants.{Start};
-ghost use Rattle.spool_store.specs.Stepping.{MayStep};
-ghost use Rattle.daemon_turn.specs.inside.Going.{MayMakePart};
-ghost use Rattle.daemon_turn.specs.inside.Launching.{Launches};
-ghost use Rattle.daemon_turn.specs.inside.Waiting.{ArePendingNumbers};
+ghost use Rattle.spool_store.specs.OneStep.{MayStep};
+ghost use Rattle.daemon_turn.specs.inside.TurnParts.{MayMakePart};
+ghost use Rattle.daemon_turn.specs.inside.StartedJobs.{Launches};
+ghost use Rattle.daemon_turn.specs.inside.PendingNumbers.{ArePendingNumbers};
 
 use crate::job_start::start_job;
 use crate::{Kid, TurnStep, Turning};
@@ -14,7 +14,8 @@ use spool_store::{Store, StoreFault};
 use std::alloc::Global;
 
 impl Turning {
-    // Starts the jobs of the numbers, in order, and writes each step down once it stands. The child of a start is a kid.
+    // Starts the jobs of the numbers, in order, and writes each step down once it stands. The child of a start is a
+    // child.
     pub(crate) fn start_all<H: Host>(
         &mut self,
         alloc: Global,

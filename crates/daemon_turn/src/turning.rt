@@ -1,16 +1,16 @@
 //! A turn under way, within its session.
-ghost use Rattle.clock_range.specs.ClockRange.{IsClockSecond};
+ghost use Rattle.host_calls.specs.ClockRange.{IsClockSecond};
 ghost use Rattle.std.specs.Prelude.{◌≡◌, [], List};
 ghost use Rattle.host_calls.specs.Session.{IsInside};
 ghost use Rattle.spool_model.specs.JobTable.{entry_at};
 ghost use Rattle.daemon_turn.specs.Decisions.{asked_kids, interrupts, is_running_entry};
 ghost use Rattle.daemon_turn.specs.Kids.{AreKidsByNumber, AreChildren};
-ghost use Rattle.daemon_turn.specs.Starting.{IsOrder, Turn, turn_of};
+ghost use Rattle.daemon_turn.specs.StartOrder.{IsOrder, Turn, turn_of};
 ghost use Rattle.daemon_turn.specs.declared.kid.Kid.{Kid};
-ghost use Rattle.daemon_turn.specs.inside.Deciding.{MayDecide};
+ghost use Rattle.daemon_turn.specs.inside.Decisions.{MayDecide};
 ghost use Rattle.daemon_turn.specs.inside.Turned.{MakesTurn};
-ghost use Rattle.daemon_turn.specs.inside.Waiting.{ArePendingNumbers};
-ghost use Rattle.daemon_turn.specs.inside.Working.{TurnsOn, TurnWorks};
+ghost use Rattle.daemon_turn.specs.inside.PendingNumbers.{ArePendingNumbers};
+ghost use Rattle.daemon_turn.specs.inside.TurnWork.{TurnsOn, TurnWorks};
 
 use crate::forget::forgotten_steps;
 use crate::kids::sort_kids;
@@ -21,8 +21,8 @@ use spool_model::State;
 use spool_store::{Store, StoreFault};
 use std::alloc::Global;
 
-// A turn under way: its kids, and the steps that stand so far. Room for a step is taken before it is made, so that none is
-// made that could not be written down. The store goes from call to call: one that fails keeps it.
+// A turn under way: its children, and the steps that stand so far. Room for a step is taken before it is made, so that
+// none is made that could not be written down. The store goes from call to call: one that fails keeps it.
 #[derive(Drop)]
 pub(crate) struct Turning {
     pub(crate) kids: Vec<Kid>,
@@ -30,7 +30,7 @@ pub(crate) struct Turning {
 }
 
 impl Turning {
-    // Recovers the store, drops the kids whose job doesn't run, and makes the steps of the turn.
+    // Recovers the store, drops the children whose job doesn't run, and makes the steps of the turn.
     pub(crate) fn work<H: Host>(
         &mut self,
         alloc: Global,
@@ -62,12 +62,12 @@ impl Turning {
             self.new.steps.items result }
     {
         let store = Store::recover(alloc, host)?;
-        // A kid whose job was ended by a call that failed is found done here: its job is not ended twice.
+        // A child whose job was ended by a call that failed is found done here: its job is not ended twice.
         drop_gone(&mut self.kids, &store);
         self.turn_on(alloc, host, store, limit, interval, at)
     }
 
-    // Makes the steps of the turn on a store that was recovered, with the kids whose jobs run.
+    // Makes the steps of the turn on a store that was recovered, with the children whose jobs run.
     fn turn_on<H: Host>(
         &mut self,
         alloc: Global,
@@ -119,7 +119,7 @@ impl Turning {
     }
 }
 
-// Drops the kids whose job doesn't run.
+// Drops the children whose job doesn't run.
 fn drop_gone(kids: &mut Vec<Kid>, store: &Store)
     ensures { kids.new.items ≡ asked_kids store.now.table kids.old.items }
 {

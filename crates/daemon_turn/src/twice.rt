@@ -1,5 +1,5 @@
 //! Two turns, one after the other.
-ghost use Rattle.clock_range.specs.ClockRange.{IsClockSecond};
+ghost use Rattle.host_calls.specs.ClockRange.{IsClockSecond};
 ghost use Rattle.host_calls.specs.Session.{IsOutside};
 ghost use Rattle.daemon_turn.specs.Kids.{AreChildren};
 ghost use Rattle.daemon_turn.specs.Twice.{TurnsTwice};

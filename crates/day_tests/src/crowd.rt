@@ -1,4 +1,4 @@
-//! What no scenario writes down: a folder in which as many jobs live as may, and how often commands are read.
+//! What no scenario writes down: a directory in which as many jobs live as may, and how often commands are read.
 ghost use Rattle.std.specs.Prelude.{IfOk};
 ghost use Rattle.host_calls.specs.Session.{IsOutside};
 ghost use Rattle.memory_host.specs.Host.{memory_session};
@@ -15,7 +15,7 @@ use std::test::Fail;
 
 const SCRIPT: &[u8] = b"#!/bin/sh\n# at user=ann mail=0\necho hi\n";
 
-// The files of a folder in which so many jobs of `ann` are pending, with the numbers from 1 on.
+// The files of a directory in which so many jobs of `ann` are pending, with the numbers from 1 on.
 fn files(alloc: Global, count: u32) -> Result<Files, AllocError> {
     let mut files = Files::new(alloc);
     put(alloc, &mut files, b"at.deny", b"")?;
@@ -32,7 +32,7 @@ fn files(alloc: Global, count: u32) -> Result<Files, AllocError> {
     Ok(files)
 }
 
-// The folder of these files.
+// The directory of these files.
 fn crowd(alloc: Global, count: u32) -> Result<MemoryHost, AllocError>
     ensures { IfOk result (λ host. IsOutside (memory_session host)) }
 {
@@ -74,7 +74,7 @@ fn status(
     Ok(status.code)
 }
 
-// The statuses of commands one after another over a folder of so many jobs.
+// The statuses of commands one after another over a directory of so many jobs.
 fn statuses(
     alloc: Global,
     commands: &[&[&str]],

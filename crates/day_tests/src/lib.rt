@@ -10,7 +10,7 @@ mod counting_inputs;
 #[cfg(test)]
 mod crowd;
 #[cfg(test)]
-mod folders;
+mod directories;
 #[cfg(test)]
 mod made;
 #[cfg(test)]

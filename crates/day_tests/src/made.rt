@@ -1,5 +1,5 @@
 //! The second of eight events, from the table of the kinds.
-use day_events::{Event, make_events};
+use at_day::{Event, make_events};
 use std::test::Fail;
 
 // Whether the event is a command whose fourth of five words is 30, with this input and at this second.

@@ -1,4 +1,4 @@
-//! The outside in memory: a spool folder, a clock that stands, an input and two sinks.
+//! The outside in memory: a spool directory, a clock that stands, an input and two sinks.
 ghost use Rattle.std.specs.Prelude.{◌≡◌, ◌∷◌, [], IfOk, None};
 ghost use Rattle.host_calls.specs.Session.{IsOutside};
 ghost use Rattle.memory_host.specs.Host.{memory_session};
@@ -47,7 +47,7 @@ pub fn made_in_memory(
     })
 }
 
-/// Does what the words ask for, for `ann`, and gives the exit status.
+/// Does what the words request, for `ann`, and gives the exit status.
 pub fn answer(alloc: Global, words: &[String], outside: &mut Outside) -> Result<u8, AllocError>
     requires { IsOutside (memory_session outside.old.host) }
     ensures { IsOutside (memory_session outside.new.host) }
@@ -66,7 +66,7 @@ pub fn answer(alloc: Global, words: &[String], outside: &mut Outside) -> Result<
     Ok(status.code)
 }
 
-// A spool folder with an empty list of users who may not use `at`.
+// A spool directory with an empty list of users who may not use `at`.
 fn spool(alloc: Global, plan: Plan) -> Result<MemoryHost, AllocError>
     ensures { IfOk result (λ host. IsOutside (memory_session host)) }
 {

@@ -1,5 +1,5 @@
-//! A made day of 32 events, tried: once for each place at which a call fails, the machine stops, or a start fails. What is
-//! proved of every day stands at `day`.
+//! A simulated run of 32 events, tried: once for each place at which a call fails, the machine stops, or a start fails.
+//! What is proved of every day is at `day`.
 ghost use Rattle.std.specs.Prelude.{OnOk};
 ghost use Rattle.at_day.specs.Days.{IsMachineReady};
 ghost use Rattle.at_day.specs.Machines.{machine};
@@ -8,7 +8,7 @@ use crate::tried_days::{
     EVENTS, Stepped, day_by, each_event, end_of_day, events, next_event, open_day, plan,
 };
 use crate::tried_rules::Seen;
-use day_events::Event;
+use at_day::Event;
 use memory_host::{Failing, Part};
 use std::alloc::{AllocError, Global};
 use std::process::Abort;

@@ -1,11 +1,11 @@
-//! A made day of 32 events, tried once for each event that finds the lock taken.
+//! A simulated run of 32 events, tried once for each event that finds the lock taken.
 ghost use Rattle.std.specs.Prelude.{OnOk};
 ghost use Rattle.at_day.specs.Days.{IsMachineReady};
 ghost use Rattle.at_day.specs.Machines.{machine};
 
 use crate::tried_days::{EVENTS, Stepped, each_event, end_of_day, events, open_day, plan};
 use crate::tried_rules::{are_alike_but, are_same_spools};
-use day_events::Event;
+use at_day::Event;
 use memory_host::Plan;
 use std::alloc::{AllocError, Global};
 use std::process::Abort;

@@ -1,4 +1,4 @@
-//! Made days for tests: one made at once, and one whose events happen one by one.
+//! Simulated runs for tests: one made at once, and one whose events happen one by one.
 ghost use Rattle.std.specs.Prelude.{IfOk, OnOk};
 ghost use Rattle.host_calls.specs.Session.{IsOutside};
 ghost use Rattle.memory_host.specs.Host.{memory_session};
@@ -6,9 +6,11 @@ ghost use Rattle.at_day.specs.Days.{IsMachineReady};
 ghost use Rattle.at_day.specs.Machines.{machine};
 
 use crate::tried_rules::Seen;
-use at_day::{INTERVAL, LIMIT, day, one_event, spool_of_day};
+use at_day::{
+    Event, EventReport, Events, INTERVAL, LIMIT, Made, are_day_events, day, is_day_event,
+    make_events, one_event, spool_of_day,
+};
 use daemon_turn::Daemon;
-use day_events::{Event, EventReport, Events, Made, are_day_events, is_day_event, make_events};
 use memory_host::{MemoryHost, Plan};
 use std::alloc::{AllocError, Global};
 use std::ops::Range;
@@ -29,7 +31,7 @@ pub fn plan(alloc: Global) -> Result<Plan, AllocError> {
     Ok(plan)
 }
 
-/// The spool of a made day before its first event, by this plan.
+/// The spool of a simulated run before its first event, by this plan.
 pub fn spool(alloc: Global, plan: Plan) -> Result<MemoryHost, AllocError>
     ensures { IfOk result (λ host. IsOutside (memory_session host)) }
 {

@@ -1,7 +1,6 @@
 //! The rules that a day of a test keeps, and whether two days are alike.
-use at_day::Counts;
+use at_day::{Counts, EventReport};
 use daemon_turn::TurnEnd;
-use day_events::EventReport;
 use host_calls::{Handed, StoreFault};
 use listing_text::Cause;
 use memory_host::MemoryHost;
@@ -39,7 +38,7 @@ impl Seen {
         }
     }
 
-    /// Whether the recovery counts, or may fail and did, no job was handed over twice, and no event reports a damage.
+    /// Whether the recovery counts, or may fail and did, no job was started twice, and no event reports a damage.
     pub fn keeps_rules(&self, may_fail: bool) -> bool {
         let counts = self.counts.is_some() || may_fail && self.is_uncounted;
         counts && !self.is_given_twice && !self.has_damage
@@ -70,7 +69,7 @@ impl Seen {
     }
 }
 
-// Whether a number stands twice among the scripts that were handed over.
+// Whether a number occurs twice among the scripts that were started.
 fn is_given_twice(handed: &[Handed]) -> bool {
     handed.iter().enumerate().any(|(index, one)| {
         handed[..index]

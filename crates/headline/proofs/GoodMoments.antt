@@ -2,9 +2,9 @@
 use Rattle.std.proofs.Common.{◌≡◌, ◌++◌, false, List, [], ◌∷◌, append_assoc, sym, ap, subst, ◌∙◌, refl, inl, inr, All, Contains}
 use Rattle.std.specs.Prelude.{Ok}
 use Rattle.host_calls.specs.declared.child.Handed.{Handed}
-use Rattle.host_calls.specs.Folder.{Files, IsImage}
+use Rattle.host_calls.specs.Directory.{Files, IsImage}
 use Rattle.host_calls.specs.World.{HasEachImage, LeavesOnly, Moment, World, reading}
-use Rattle.host_calls.proofs.FolderLemmas.{reading_is_image}
+use Rattle.host_calls.proofs.DirectoryLemmas.{reading_is_image}
 use Rattle.host_calls.proofs.WorldLemmas.{leaves_none, leaves_then, leaves_weaker}
 use Rattle.spool_model.specs.declared.step.Step.{Step}
 use Rattle.spool_model.specs.JobTable.{JobTable}
@@ -18,7 +18,7 @@ use Rattle.headline.specs.ShownEffects.{IsShownAlong, IsShownAsBefore, IsShownBe
 use Rattle.headline.proofs.GoodSteps.{all_prefix, all_rest, follows_prefix, good_by_now}
 use Rattle.headline.proofs.GoodTables.{IsGood}
 
--- the image shows a good table, by what was handed over after the first scripts
+-- the image shows a good table, by what was started after the first scripts
 pub record ShowsGood (opening : JobTable) (all : List Step) (first : List Handed) (image : Files) (handed : List Handed) : Type 0 where
   pub table : JobTable
   pub shows : Shows image table
@@ -78,7 +78,7 @@ begun_keeps : (opening : JobTable) (all : List Step) (first : List Handed) (tabl
     HasEachImage (ShowsGood opening all first) old.now → Keeps (ShowsGood opening all first) old new
 begun_keeps opening all first table steps old new follow begun within good =
     let start : (given : List Handed) × (old.now.handed ≡ first ++ given) × IsGood opening all false given table =
-    shown_good opening all first old table begun.shown (good (reading old) (reading_is_image old.now.folder)) in
+    shown_good opening all first old table begun.shown (good (reading old) (reading_is_image old.now.directory)) in
     let on : (image : Files) (handed : List Handed) → IsShownAlong table steps old.now image handed → ShowsGood opening all first image handed =
     along opening all first table steps old.now start.0 begun.legal follow within start.1 start.2 in
     record {
@@ -94,12 +94,12 @@ begun_keeps opening all first table steps old new follow begun within good =
 crash_keeps : (opening : JobTable) (all : List Step) (first : List Handed) (image : Files) (old new : World) →
     ComesUpWith image old new → HasEachImage (ShowsGood opening all first) old.now → Keeps (ShowsGood opening all first) old new
 crash_keeps opening all first image old new up good =
-    let kept : (other : Files) (handed : List Handed) → IsImage old.now.folder other → handed ≡ old.now.handed → ShowsGood opening all first other handed =
+    let kept : (other : Files) (handed : List Handed) → IsImage old.now.directory other → handed ≡ old.now.handed → ShowsGood opening all first other handed =
     λ other handed was same. subst (ShowsGood opening all first other) (sym same) (good other was) in
     record {
-      leaves = leaves_weaker (λ (other : Files) (handed : List Handed). IsImage old.now.folder other × (handed ≡ old.now.handed))
+      leaves = leaves_weaker (λ (other : Files) (handed : List Handed). IsImage old.now.directory other × (handed ≡ old.now.handed))
           (ShowsGood opening all first) old new (λ other handed is. kept other handed is.0 is.1) up.leaves;
-      now = λ other is. kept other new.now.handed (subst (IsImage old.now.folder) (sym (up.only other is)) up.was) up.handed;
+      now = λ other is. kept other new.now.handed (subst (IsImage old.now.directory) (sym (up.only other is)) up.was) up.handed;
     }
 
 -- one event

@@ -3,6 +3,6 @@ pub mod GoodTables
 pub mod GoodSteps
 pub mod GoodMoments
 pub mod TableAfterLemmas
-pub mod StandingLemmas
+pub mod StateLemmas
 pub mod ShownEffectLemmas
 pub mod HeadlineLemmas

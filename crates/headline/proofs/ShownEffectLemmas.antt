@@ -1,12 +1,12 @@
 -- An effect is one that is shown.
 use Rattle.std.proofs.Common.{List, [], ◌∷◌, inl, inr}
 use Rattle.host_calls.specs.declared.child.Handed.{Handed}
-use Rattle.host_calls.specs.Folder.{Files}
+use Rattle.host_calls.specs.Directory.{Files}
 use Rattle.host_calls.specs.World.{Moment, World}
 use Rattle.host_calls.proofs.WorldLemmas.{leaves_weaker}
 use Rattle.spool_model.specs.declared.step.Step.{Step}
 use Rattle.spool_model.specs.JobTable.{JobTable}
-use Rattle.step_runs.specs.Attempts.{IsAsBefore, IsBegun, IsOnTheWay}
+use Rattle.step_runs.specs.Attempts.{IsAsBefore, IsBegun, IsPartlyDone}
 use Rattle.step_runs.specs.Runs.{IsAlong}
 use Rattle.headline.specs.Effects.{Crashed, PassFrom, Passed, Partial, Untouched, Whole}
 use Rattle.headline.specs.Laws.{EffectsAreShown}
@@ -27,7 +27,7 @@ shown_along table steps start image handed is = record {
 }
 
 shown_on_the_way : (table : JobTable) (steps : List Step) (start : Moment) (image : Files) (handed : List Handed) →
-    IsOnTheWay table steps start image handed → IsShownOnTheWay table steps start image handed
+    IsPartlyDone table steps start image handed → IsShownOnTheWay table steps start image handed
 shown_on_the_way table steps start image handed is = elim is [
   | inl before ↦ inl (shown_before start image handed before)
   | inr along ↦ inr (shown_along table steps start image handed along)
@@ -37,7 +37,7 @@ shown_begun : (table : JobTable) (steps : List Step) (old new : World) → IsBeg
 shown_begun table steps old new begun = record {
   shown = begun.shown;
   legal = begun.legal;
-  leaves = leaves_weaker (IsOnTheWay table steps old.now) (IsShownOnTheWay table steps old.now) old new
+  leaves = leaves_weaker (IsPartlyDone table steps old.now) (IsShownOnTheWay table steps old.now) old new
       (shown_on_the_way table steps old.now) begun.leaves;
   now = λ image is. shown_along table steps old.now image new.now.handed (begun.now image is);
 }

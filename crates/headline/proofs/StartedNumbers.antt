@@ -1,4 +1,4 @@
--- A number whose script was handed over, through one step of the table.
+-- A number whose script was started, through one step of the table.
 use Rattle.std.proofs.Common.{◌≡◌, ◌⊎◌, ◌≤◌, ◌<◌, ℕ, ℤ, Bool, true, false, List, cond, sym, ap, subst, ◌∙◌, refl, inl, inr, arith, IsTrue, Contains}
 use Rattle.std.specs.Prelude.{Some, None, nat_eq}
 use Rattle.std.proofs.lemmas.Bool.Decides.{eqb_tells}
@@ -24,7 +24,7 @@ old_is_drawn true number last old = omega arith
 old_is_drawn false number last old = old
 
 -- the number is old, and its start stands
-pub record Stands (all : List Step) (drawn : Bool) (table : JobTable) (number : ℕ) : Type 0 where
+pub record Holds (all : List Step) (drawn : Bool) (table : JobTable) (number : ℕ) : Type 0 where
   pub some : 1 ≤ number
   pub old : IsOld drawn number table.last
   pub started : IsStartedOn table all number
@@ -99,25 +99,25 @@ started_at table number second job pending =
 
 -- the start stands after a step, where a step that forgets is one of all
 started_after : (all : List Step) (drawn : Bool) (table : JobTable) (step : Step) (number : ℕ) → IsLegal table step →
-    MayFollow drawn step → Contains all step → Stands all drawn table number → IsStartedOn (after_step table step) all number
-started_after all drawn table Draw number legal follows within stands = stands.started
-started_after all true table (Accept accepted job) number legal follows within stands =
-    let apart : ¬ (number ≡ accepted) = λ same. omega (arith, stands.old, legal.last) in
-    started_same table (after_step table (Accept accepted job)) all number (get-put_other table.entries accepted number (Live job Pending) apart) stands.started
-started_after all false table (Accept accepted job) number legal follows within stands = absurd (no_draw follows) where
+    MayFollow drawn step → Contains all step → Holds all drawn table number → IsStartedOn (after_step table step) all number
+started_after all drawn table Draw number legal follows within holds = holds.started
+started_after all true table (Accept accepted job) number legal follows within holds =
+    let apart : ¬ (number ≡ accepted) = λ same. omega (arith, holds.old, legal.last) in
+    started_same table (after_step table (Accept accepted job)) all number (get-put_other table.entries accepted number (Live job Pending) apart) holds.started
+started_after all false table (Accept accepted job) number legal follows within holds = absurd (no_draw follows) where
   no_draw : IsTrue false → ⊥
   no_draw is = cc
-started_after all drawn table (Remove removed) number legal follows within stands =
-    let apart : ¬ (number ≡ removed) = λ same. started_not_pending table all number legal.0 stands.started (ap (entry_at table) same ∙ legal.1) in
-    started_same table (after_step table (Remove removed)) all number (get-put_other table.entries removed number (Done Removed) apart) stands.started
-started_after all drawn table (Start started second) number legal follows within stands =
+started_after all drawn table (Remove removed) number legal follows within holds =
+    let apart : ¬ (number ≡ removed) = λ same. started_not_pending table all number legal.0 holds.started (ap (entry_at table) same ∙ legal.1) in
+    started_same table (after_step table (Remove removed)) all number (get-put_other table.entries removed number (Done Removed) apart) holds.started
+started_after all drawn table (Start started second) number legal follows within holds =
     started_put table (after_step table (Start started second)) all number started (Live legal.0 (Running second))
-    (started_entries table started second legal.0 legal.1) (λ is. inl (legal.0, second, is)) stands.started
-started_after all drawn table (End ended ending) number legal follows within stands =
-    started_put table (after_step table (End ended ending)) all number ended (Done (Finished ending)) refl (λ is. inr (inl (Finished ending, is, λ same. cc))) stands.started
-started_after all drawn table (Interrupt ended) number legal follows within stands =
-    started_put table (after_step table (Interrupt ended)) all number ended (Done Interrupted) refl (λ is. inr (inl (Interrupted, is, λ same. cc))) stands.started
-started_after all drawn table (Forget forgotten) number legal follows within stands =
+    (started_entries table started second legal.0 legal.1) (λ is. inl (legal.0, second, is)) holds.started
+started_after all drawn table (End ended ending) number legal follows within holds =
+    started_put table (after_step table (End ended ending)) all number ended (Done (Finished ending)) refl (λ is. inr (inl (Finished ending, is, λ same. cc))) holds.started
+started_after all drawn table (Interrupt ended) number legal follows within holds =
+    started_put table (after_step table (Interrupt ended)) all number ended (Done Interrupted) refl (λ is. inr (inl (Interrupted, is, λ same. cc))) holds.started
+started_after all drawn table (Forget forgotten) number legal follows within holds =
     let at : entry_at (after_step table (Forget forgotten)) number ≡ cond (nat_eq number forgotten) None (entry_at table number) =
     get-taken table.entries forgotten number in
     elim (eqb_tells number forgotten) [
@@ -126,7 +126,7 @@ started_after all drawn table (Forget forgotten) number legal follows within sta
         subst (λ n. Contains all (Forget n)) (sym same.1) within,
       ))
       | inr apart ↦ started_same table (after_step table (Forget forgotten)) all number
-          (at ∙ ap (λ b. cond b None (entry_at table number)) apart.0) stands.started
+          (at ∙ ap (λ b. cond b None (entry_at table number)) apart.0) holds.started
     ]
 
 -- an old number is old after a step
@@ -140,13 +140,13 @@ old_after drawn table (End ended ending) number old = old_is_drawn drawn number 
 old_after drawn table (Interrupt ended) number old = old_is_drawn drawn number table.last old
 old_after drawn table (Forget forgotten) number old = old_is_drawn drawn number table.last old
 
-pub stands_after : (all : List Step) (drawn : Bool) (table : JobTable) (step : Step) (number : ℕ) → IsLegal table step →
-    MayFollow drawn step → Contains all step → Stands all drawn table number →
-    Stands all (drawn_after step) (after_step table step) number
-stands_after all drawn table step number legal follows within stands = record {
-  some = stands.some;
-  old = old_after drawn table step number stands.old;
-  started = started_after all drawn table step number legal follows within stands;
+pub holds_after : (all : List Step) (drawn : Bool) (table : JobTable) (step : Step) (number : ℕ) → IsLegal table step →
+    MayFollow drawn step → Contains all step → Holds all drawn table number →
+    Holds all (drawn_after step) (after_step table step) number
+holds_after all drawn table step number legal follows within holds = record {
+  some = holds.some;
+  old = old_after drawn table step number holds.old;
+  started = started_after all drawn table step number legal follows within holds;
 }
 
 -- Jobs that are pending after a step.

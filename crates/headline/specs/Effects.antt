@@ -1,21 +1,21 @@
 -- What one event does to a host, whatever it is of: a command, a turn of the daemon, or a crash (own).
 use Rattle.std.specs.Prelude.{◌≡◌, ◌++◌, [], ◌∷◌, Bool, false, List}
-use Rattle.host_calls.specs.Folder.{Files, IsImage}
+use Rattle.host_calls.specs.Directory.{Files, IsImage}
 use Rattle.host_calls.specs.World.{LeavesOnly, World}
 use Rattle.spool_model.specs.declared.step.Step.{Step}
 use Rattle.spool_model.specs.JobTable.{JobTable}
 use Rattle.spool_model.specs.Steps.{FollowDraws}
 use Rattle.step_runs.specs.Attempts.{IsAchieved, IsBegun, IsUnbegun}
 
--- The machine crashed, and came up with one image of the moment before as the only one. Nothing was handed over.
+-- The machine crashed, and came up with one image of the moment before as the only one. Nothing was started.
 pub record ComesUpWith (image : Files) (old new : World) : Type 0 where
-  pub was : IsImage old.now.folder image
-  pub only : (other : Files) → IsImage new.now.folder other → other ≡ image
+  pub was : IsImage old.now.directory image
+  pub only : (other : Files) → IsImage new.now.directory other → other ≡ image
   pub handed : new.now.handed ≡ old.now.handed
-  pub leaves : LeavesOnly (λ other handed. IsImage old.now.folder other × (handed ≡ old.now.handed)) old new
+  pub leaves : LeavesOnly (λ other handed. IsImage old.now.directory other × (handed ≡ old.now.handed)) old new
 
--- What an event did. Untouched: none of its steps. Partial: a prefix of these steps, on the table that the folder showed.
--- Whole: all of these steps. Crashed: the machine went down, and came up with the image.
+-- What an event did. Untouched: none of its steps. Partial: a prefix of these steps, on the table that the directory
+-- showed. Whole: all of these steps. Crashed: the machine went down, and came up with the image.
 pub data Effect : Type 0 where
   Untouched : Effect
   Partial : (table : JobTable) (steps : List Step) → Effect

@@ -1,6 +1,6 @@
 -- What holds of all events, whatever they are of.
 use Rattle.std.specs.Prelude.{◌≡◌, ◌↔◌, ◌++◌, [], ◌∷◌, Bool, List, true}
-use Rattle.host_calls.specs.Folder.{Folder}
+use Rattle.host_calls.specs.Directory.{Directory}
 use Rattle.host_calls.specs.World.{World, reading}
 use Rattle.spool_model.specs.declared.step.Step.{Step}
 use Rattle.spool_model.specs.JobTable.{JobTable}
@@ -11,17 +11,17 @@ use Rattle.step_runs.specs.Current.{EachShows}
 use Rattle.headline.specs.Headline.{Headline}
 use Rattle.headline.specs.Effects.{Effect, IsEffectOf, Whole, TakesEffect, PassFrom, Passed, world_after}
 use Rattle.headline.specs.ShownEffects.{PassShownFrom, TakesShownEffect}
-use Rattle.headline.specs.Standings.{Standing, StandsAt, StandsThrough, settled_at}
+use Rattle.headline.specs.SpoolStates.{SpoolState, IsInState, PassesStates, settled_at}
 
--- the headline, of any events that pass from a world on whose folder shows one table in each image
+-- the headline, of any events that pass from a world on whose directory shows one table in each image
 abbrev pub EventsHandOnce : Type 0
 EventsHandOnce = (opening : JobTable) (events : List Passed) (old : World) →
-    EachShows old.now.folder opening → PassFrom old events → Headline opening events old
+    EachShows old.now.directory opening → PassFrom old events → Headline opening events old
 
 -- the headline, of any events that pass so as far as images show it, whatever they do to other files
 abbrev pub ShownEventsHandOnce : Type 0
 ShownEventsHandOnce = (opening : JobTable) (events : List Passed) (old : World) →
-    EachShows old.now.folder opening → PassShownFrom old events → Headline opening events old
+    EachShows old.now.directory opening → PassShownFrom old events → Headline opening events old
 
 -- an effect is one that images show
 abbrev pub EffectsAreShown : Type 0
@@ -33,19 +33,19 @@ EachReadsATable old [] = Unit {0}
 EachReadsATable old (event ∷ later) = ((table : JobTable) × Shows (reading old) table) × EachReadsATable event.left later
 
 -- where the host stands through the events, none of them finds damage
-abbrev pub StandingHostsReadTables : Type 0
-StandingHostsReadTables = (old : World) (at : Standing) (events : List Passed) → StandsThrough old at events →
+abbrev pub HostsReadTables : Type 0
+HostsReadTables = (old : World) (at : SpoolState) (events : List Passed) → PassesStates old at events →
     EachReadsATable old events
 
--- a folder that stands at a table without steps shows it in each image, and the other way round
-abbrev pub SettledFoldersShowTheirTable : Type 0
-SettledFoldersShowTheirTable = (folder : Folder) (table : JobTable) →
-    StandsAt folder (settled_at table) ↔ EachShows folder table
+-- a directory that is at a table without steps shows it in each image, and the other way round
+abbrev pub SettledDirectoriesShowTheirTable : Type 0
+SettledDirectoriesShowTheirTable = (directory : Directory) (table : JobTable) →
+    IsInState directory (settled_at table) ↔ EachShows directory table
 
 -- where an event made all its steps, each image shows the table after them
 abbrev pub AchievedStepsStand : Type 0
 AchievedStepsStand = (table : JobTable) (steps : List Step) (old new : World) → TakesEffect (Whole table steps) old new →
-    EachShows new.now.folder (after_steps table steps)
+    EachShows new.now.directory (after_steps table steps)
 
 -- All steps of an event were made: they are its steps, by this test, on the table that the reading showed, and each image
 -- shows the table after them.
@@ -54,7 +54,7 @@ pub record IsEventWhole (are_steps : JobTable → List Step → Bool) (old new :
   pub steps : List Step
   pub are : are_steps table steps ≡ true
   pub shown : Shows (reading old) table
-  pub stand : EachShows new.now.folder (after_steps table steps)
+  pub stand : EachShows new.now.directory (after_steps table steps)
 
 -- an event that was acknowledged made all of its steps
 abbrev pub AcknowledgedEventsAreWhole : Type 0

@@ -1,5 +1,5 @@
 pub mod Effects
-pub mod Standings
+pub mod SpoolStates
 pub mod Headline
 pub mod Laws
 pub mod ShownEffects

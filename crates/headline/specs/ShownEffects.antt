@@ -1,8 +1,8 @@
--- What one event does to a host, as far as images show it and scripts are handed over (own): an effect, with no word of
+-- What one event does to a host, as far as images show it and scripts are started (own): an effect, with no word of
 -- other files than the store's. An event that changes other files too takes its effect so.
 use Rattle.std.specs.Prelude.{◌≡◌, ◌⊎◌, ◌++◌, [], ◌∷◌, false, List, Ok}
 use Rattle.host_calls.specs.declared.child.Handed.{Handed}
-use Rattle.host_calls.specs.Folder.{Files, IsImage}
+use Rattle.host_calls.specs.Directory.{Files, IsImage}
 use Rattle.host_calls.specs.World.{HasEachImage, LeavesOnly, Moment, World, reading}
 use Rattle.spool_model.specs.declared.step.Step.{Step}
 use Rattle.spool_model.specs.JobTable.{JobTable}
@@ -12,14 +12,14 @@ use Rattle.step_runs.specs.Current.{EachShows}
 use Rattle.step_runs.specs.Hands.{HandsByNow}
 use Rattle.headline.specs.Effects.{ComesUpWith, Crashed, Effect, Partial, Passed, Untouched, Whole}
 
--- the image shows what an image of the start shows, and nothing was handed over since
+-- the image shows what an image of the start shows, and nothing was started since
 pub record IsShownAsBefore (start : Moment) (image : Files) (handed : List Handed) : Type 0 where
   pub from : Files
-  pub was : IsImage start.folder from
+  pub was : IsImage start.directory from
   pub same : shown_by image ≡ shown_by from
   pub as_many : handed ≡ start.handed
 
--- the image shows the table after a prefix of the steps, and since the start no more was handed over than it hands over
+-- the image shows the table after a prefix of the steps, and since the start no more was started than it starts
 pub record IsShownAlong (table : JobTable) (steps : List Step) (start : Moment) (image : Files)
     (handed : List Handed) : Type 0 where
   pub prefix : List Step
@@ -46,10 +46,10 @@ pub record IsShownBegun (table : JobTable) (steps : List Step) (old new : World)
   pub leaves : LeavesOnly (IsShownOnTheWay table steps old.now) old new
   pub now : HasEachImage (IsShownAlong table steps old.now) new.now
 
--- all steps were made: they stand in every image
+-- all steps were made: they are in every image
 pub record IsShownAchieved (table : JobTable) (steps : List Step) (old new : World) : Type 0 where
   pub begun : IsShownBegun table steps old new
-  pub whole : EachShows new.now.folder (after_steps table steps)
+  pub whole : EachShows new.now.directory (after_steps table steps)
 
 -- The effect leads from one world to another, as far as images show it. Each Accept stands directly after its Draw.
 abbrev pub TakesShownEffect : Effect → World → World → Type 0

@@ -1,7 +1,7 @@
 //! What holds of all events, each law as the contract of a function.
-ghost use Rattle.headline.specs.Laws.{AchievedStepsStand, AcknowledgedEventsAreWhole, EffectsAreShown, EventsHandOnce, EventsPassOn, LaterEventsLeave, SettledFoldersShowTheirTable, ShownEventsHandOnce, StandingHostsReadTables, StillWorldsAreUnbegun};
+ghost use Rattle.headline.specs.Laws.{AchievedStepsStand, AcknowledgedEventsAreWhole, EffectsAreShown, EventsHandOnce, EventsPassOn, LaterEventsLeave, SettledDirectoriesShowTheirTable, ShownEventsHandOnce, HostsReadTables, StillWorldsAreUnbegun};
 
-/// Over all events no script is handed over twice, or before its start survives every crash, and the host stands where
+/// Over all events no script is started twice, or before its start survives every crash, and the host stands where
 /// the events leave it.
 pub fn events_hand_once()
     ensures { EventsHandOnce }
@@ -18,10 +18,10 @@ pub fn acknowledged_events_are_whole()
     ensures { AcknowledgedEventsAreWhole }
 {}
 
-/// A host that stands at a table finds no damage.
-pub fn standing_hosts_read_tables()
-    ensures tables { StandingHostsReadTables }
-    ensures settled { SettledFoldersShowTheirTable }
+/// A host that is at a table finds no damage.
+pub fn hosts_read_tables()
+    ensures tables { HostsReadTables }
+    ensures settled { SettledDirectoriesShowTheirTable }
     ensures achieved { AchievedStepsStand }
 {}
 

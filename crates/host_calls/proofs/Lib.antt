@@ -1,3 +1,6 @@
 mod NameLemmas
-pub mod FolderLemmas
+pub mod ClockRangeLemmas
+pub mod DirectoryLemmas
+pub mod SessionEndLemmas
+pub mod SessionLemmas
 pub mod WorldLemmas

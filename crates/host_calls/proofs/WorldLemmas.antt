@@ -2,7 +2,7 @@
 use Rattle.std.proofs.Common.{◌≡◌, ◌⊎◌, ◌+◌, ◌-◌, ◌≤◌, ℕ, zero, suc, List, [], ◌∷◌, ◌++◌, length, take, append_assoc, sym, ap, subst, ◌∙◌, inl, inr, arith, length-append, Result}
 use Rattle.host_calls.specs.declared.child.Handed.{Handed}
 use Rattle.host_calls.specs.declared.fault.HostFault.{HostFault}
-use Rattle.host_calls.specs.Folder.{Folder, Files}
+use Rattle.host_calls.specs.Directory.{Directory, Files}
 use Rattle.host_calls.specs.World.{Moment, World, moments, moment, AnyMoment, AllMoments, Leaves, MayLeave, HasEachImage, LeavesOnly, IsWithin, WithinCall, FileCall, TimePasses}
 
 -- what holds of each moment of two lists holds of each of both together
@@ -36,7 +36,7 @@ leaves_then P first second third before after = record {
 }
 
 -- one call after a run: it is enough that what the call lets a crash leave has P
-pub call_then : {T : Type 0} (P : Files → List Handed → Type 0) (done part : Folder → Folder → Type 0) (first second third : World) (result : Result T HostFault) → LeavesOnly P first second → FileCall done part second third result → ((image : Files) → IsWithin done second.now.folder image → P image second.now.handed) → LeavesOnly P first third
+pub call_then : {T : Type 0} (P : Files → List Handed → Type 0) (done part : Directory → Directory → Type 0) (first second third : World) (result : Result T HostFault) → LeavesOnly P first second → FileCall done part second third result → ((image : Files) → IsWithin done second.now.directory image → P image second.now.handed) → LeavesOnly P first third
 call_then P done part first second third result before call within =
     let weaker : (image : Files) (handed : List Handed) → WithinCall done second.now image handed → P image handed = λ image handed is. subst (P image) (sym is.1) (within image is.0) in
     leaves_then P first second third before (leaves_weaker (WithinCall done second.now) P second third weaker call.leaves)
@@ -119,7 +119,7 @@ at_end P old new leaves start = by_run leaves.more leaves.run leaves.each where
   by_run [] run each = let same : new.now ≡ old.now = cc in subst (HasEachImage P) (sym same) start
   by_run (here ∷ others) run each = let same : new.now ≡ here = cc in subst (HasEachImage P) (sym same) each.0
 
--- nothing is handed over
+-- nothing is started
 pub goes_on_none : (old new : World) → new ≡ old → TimePasses old new
 goes_on_none old new same = record {
   asked = ap (λ (world : World). world.asked) same;
@@ -127,7 +127,7 @@ goes_on_none old new same = record {
   leaves = leaves_none (λ image handed. handed ≡ old.now.handed) old new same;
 }
 
--- one run after another hands over what the two do
+-- one run after another starts what the two do
 pub goes_on_then : (first second third : World) → TimePasses first second → TimePasses second third → TimePasses first third
 goes_on_then first second third before after = record {
   asked = after.asked ∙ before.asked;

@@ -1,7 +1,7 @@
 -- Why a call answers a fault of the outside: only where a count of such faults rose.
 use Rattle.std.specs.Prelude.{◌+◌, ◌-◌, ◌^◌, ◌≤◌, ℕ, min, Result, IsErrOf}
 
--- The count rose, or stands at the last value that it can have.
+-- The count rose, or is at the last value that it can have.
 abbrev pub Rose : ℕ → ℕ → Type 0
 Rose before now = min (before + 1) (2 ^ 64 - 1) ≤ now
 

@@ -1,10 +1,13 @@
 pub mod Causes
 pub mod Clock
+pub mod ClockRange
 pub mod Damages
-pub mod Folder
+pub mod Directory
 pub mod Inputs
 pub mod Names
 pub mod Session
+pub mod SessionEnds
+pub mod SessionWork
 pub mod Sink
 pub mod StoreFaults
 pub mod World

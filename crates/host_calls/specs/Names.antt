@@ -1,4 +1,4 @@
--- Names of plain files in the spool folder.
+-- Names of plain files in the spool directory.
 use Rattle.std.specs.Prelude.{◌≡◌, ◌≢◌, ◌≤◌, ◌==◌, ◌||◌, ◌-◌, ℕ, Bool, List, ◌++◌, length, take, replicate, codes, IsTrue}
 use Rattle.std.specs.List.{list_all}
 use Rattle.std.specs.Char.{is_ascii_alphanumeric}
@@ -7,11 +7,11 @@ use Rattle.std.specs.Char.{is_ascii_alphanumeric}
 abbrev pub is_name_byte : ℕ → Bool
 is_name_byte byte = is_ascii_alphanumeric byte || byte == 46 || byte == 95 || byte == 45
 
--- each byte may stand in a name
+-- each byte may be in a name
 abbrev pub are_name_bytes : List ℕ → Bool
 are_name_bytes bytes = list_all is_name_byte bytes
 
--- the bytes are a name: 1 to 64 bytes that may stand in one, and not one or two points alone
+-- the bytes are a name: 1 to 64 bytes that may be in one, and not one or two points alone
 pub record IsName (bytes : List ℕ) : Type 0 where
   pub some : 1 ≤ length bytes
   pub few : length bytes ≤ 64

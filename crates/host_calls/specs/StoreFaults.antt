@@ -18,13 +18,13 @@ IsReadingFault Memory = Unit {0}
 IsReadingFault FileFault = Unit {0}
 IsReadingFault _ = ⊥
 
--- the fault is this damage, which was found, or want of memory
+-- the fault is this damage, which was found, or an out-of-memory error
 abbrev pub IsFound : Option Damage → StoreFault → Type 0
 IsFound found (Damaged damage) = found ≡ Some damage
 IsFound found Memory = Unit {0}
 IsFound found _ = ⊥
 
--- the fault is one of a call that makes one step: of a file, or want of memory
+-- the fault is one of a call that makes one step: of a file, or an out-of-memory error
 abbrev pub IsOfStep : StoreFault → Type 0
 IsOfStep FileFault = Unit {0}
 IsOfStep Memory = Unit {0}

@@ -1,4 +1,4 @@
--- A world: each moment of a spool folder so far, with what was handed over by then.
+-- A world: each moment of a spool directory so far, with what was started by then.
 use Rattle.std.specs.Prelude.{◌≡◌, ◌⊎◌, ◌+◌, ◌-◌, ◌≤◌, ◌++◌, [], ◌∷◌, ℕ, Bool, true, false, List, Contains, length, take, drop, Option, Some, option_map, IsSomeAnd, Result, Ok, Err}
 use Rattle.std.specs.declared.alloc.AllocError.{AllocError}
 use Rattle.std.specs.FinMap as map
@@ -10,11 +10,11 @@ use Rattle.host_calls.specs.declared.fault.HostFault.{HostFault}
 use Rattle.host_calls.specs.declared.fault.HostFault.TheVariants.{Failed, Memory}
 use Rattle.host_calls.specs.declared.fault.StartFault.{StartFault}
 use Rattle.host_calls.specs.declared.fault.StartFault.TheVariants.{Failed as NoStart, Memory as NoMemory}
-use Rattle.host_calls.specs.Folder.{Folder, Files, IsImage, reading_of}
+use Rattle.host_calls.specs.Directory.{Directory, Files, IsImage, reading_of}
 
--- the folder at a moment, and all scripts that were handed over by then
+-- the directory at a moment, and all scripts that were started by then
 pub record Moment : Type 0 where
-  pub folder : Folder
+  pub directory : Directory
   pub handed : List Handed
 
 -- the moment now, those before it, the newest first, and each question to a child with its answer
@@ -33,7 +33,7 @@ moment world = length world.before
 
 -- the files as they read now
 abbrev pub reading : World → Files
-reading world = reading_of world.now.folder
+reading world = reading_of world.now.directory
 
 -- how many bytes the file of a name has, if there is one
 abbrev pub size_of : Files → List ℕ → Option ℕ
@@ -57,17 +57,17 @@ abbrev pub AllMoments : (Moment → Type 0) → List Moment → Type 0
 AllMoments P [] = Unit {0}
 AllMoments P (here ∷ others) = P here × AllMoments P others
 
--- A crash at the moment may leave the image, and these scripts were handed over by then.
+-- A crash at the moment may leave the image, and these scripts were started by then.
 abbrev pub Leaves : Files → List Handed → Moment → Type 0
-Leaves image handed at = IsImage at.folder image × (handed ≡ at.handed)
+Leaves image handed at = IsImage at.directory image × (handed ≡ at.handed)
 
--- A crash at some moment from the one of this number on might have left the image, these scripts handed over.
+-- A crash at some moment from the one of this number on might have left the image, these scripts started.
 abbrev pub MayLeave : World → ℕ → Files → List Handed → Type 0
 MayLeave world since image handed = AnyMoment (Leaves image handed) (take (moment world + 1 - since) (moments world))
 
--- each image of the moment, with what was handed over by then, has P
+-- each image of the moment, with what was started by then, has P
 abbrev pub HasEachImage : (Files → List Handed → Type 0) → Moment → Type 0
-HasEachImage P at = (image : Files) → IsImage at.folder image → P image at.handed
+HasEachImage P at = (image : Files) → IsImage at.directory image → P image at.handed
 
 -- Since the old world a crash at any moment leaves an image that has P.
 pub record LeavesOnly (P : Files → List Handed → Type 0) (old new : World) : Type 0 where
@@ -75,39 +75,39 @@ pub record LeavesOnly (P : Files → List Handed → Type 0) (old new : World) :
   pub run : moments new ≡ more ++ moments old
   pub each : AllMoments (HasEachImage P) more
 
--- the world after a call, by the call's answer: a call that failed has done nothing to the folder or a part
-abbrev pub Outcome : {T : Type 0} → (Folder → Folder → Type 0) → (Folder → Folder → Type 0) → World → World →
+-- the world after a call, by the call's answer: a call that failed has done nothing to the directory or a part
+abbrev pub Outcome : {T : Type 0} → (Directory → Directory → Type 0) → (Directory → Directory → Type 0) → World → World →
     Result T HostFault → Type 0
-Outcome done part old new (Ok value) = done old.now.folder new.now.folder
-Outcome done part old new (Err Failed) = (new.now.folder ≡ old.now.folder) ⊎ part old.now.folder new.now.folder
+Outcome done part old new (Ok value) = done old.now.directory new.now.directory
+Outcome done part old new (Err Failed) = (new.now.directory ≡ old.now.directory) ⊎ part old.now.directory new.now.directory
 Outcome done part old new (Err Memory) = new ≡ old
 
--- The image is one of the folder at a call's start, or one that the call lets a crash leave.
-abbrev pub IsWithin : (Folder → Folder → Type 0) → Folder → Files → Type 0
-IsWithin done old image = IsImage old image ⊎ ((new : Folder) × done old new × IsImage new image)
+-- The image is one of the directory at a call's start, or one that the call lets a crash leave.
+abbrev pub IsWithin : (Directory → Directory → Type 0) → Directory → Files → Type 0
+IsWithin done old image = IsImage old image ⊎ ((new : Directory) × done old new × IsImage new image)
 
 -- what a crash may leave at each moment of a call
-abbrev pub WithinCall : (Folder → Folder → Type 0) → Moment → Files → List Handed → Type 0
-WithinCall done start image handed = IsWithin done start.folder image × (handed ≡ start.handed)
+abbrev pub WithinCall : (Directory → Directory → Type 0) → Moment → Files → List Handed → Type 0
+WithinCall done start image handed = IsWithin done start.directory image × (handed ≡ start.handed)
 
--- one call that changes the folder and hands nothing over
-pub record FileCall {T : Type 0} (done part : Folder → Folder → Type 0) (old new : World)
+-- one call that changes the directory and starts nothing
+pub record FileCall {T : Type 0} (done part : Directory → Directory → Type 0) (old new : World)
     (result : Result T HostFault) : Type 0 where
   pub outcome : Outcome done part old new result
   pub handed : new.now.handed ≡ old.now.handed
   pub asked : new.asked ≡ old.asked
   pub leaves : LeavesOnly (WithinCall done old.now) old new
 
--- Time goes on between sessions: others may change the folder, and nothing is handed over.
+-- Time goes on between sessions: others may change the directory, and nothing is started.
 pub record TimePasses (old new : World) : Type 0 where
   pub asked : new.asked ≡ old.asked
   pub handed : new.now.handed ≡ old.now.handed
   pub leaves : LeavesOnly (λ image handed. handed ≡ old.now.handed) old new
 
--- One script more was handed over: the bytes of the named file, and whether a child came of it.
+-- One script more was started: the bytes of the named file, and whether a child came of it.
 pub record HandsOver (number : ℕ) (name : List ℕ) (nice : ℕ) (started : Bool) (old new : Moment) : Type 0 where
   pub script : List ℕ
-  pub read : map.get (reading_of old.folder) name ≡ Some script
+  pub read : map.get (reading_of old.directory) name ≡ Some script
   pub handed : new.handed ≡ old.handed ++ record { number = number; script = script; nice = nice; started = started } ∷ []
 
 -- the world after a start, by its answer
@@ -116,14 +116,14 @@ StartOutcome number name nice old new (Ok child) = HandsOver number name nice tr
 StartOutcome number name nice old new (Err NoStart) = HandsOver number name nice false old.now new.now
 StartOutcome number name nice old new (Err NoMemory) = new ≡ old
 
--- a start: the folder stays, and at most one script more is handed over, in one moment
+-- a start: the directory stays, and at most one script more is started, in one moment
 pub record StartCall {T : Type 0} (number : ℕ) (name : List ℕ) (nice : ℕ) (old new : World)
     (result : Result T StartFault) : Type 0 where
   pub outcome : StartOutcome number name nice old new result
-  pub folder : new.now.folder ≡ old.now.folder
+  pub directory : new.now.directory ≡ old.now.directory
   pub asked : new.asked ≡ old.asked
   pub leaves : LeavesOnly
-      (λ image handed. IsImage old.now.folder image × ((handed ≡ old.now.handed) ⊎ (handed ≡ new.now.handed)))
+      (λ image handed. IsImage old.now.directory image × ((handed ≡ old.now.handed) ⊎ (handed ≡ new.now.handed)))
       old
       new
 

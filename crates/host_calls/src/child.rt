@@ -18,7 +18,7 @@ pub enum Ending {
     NotStarted,
 }
 
-/// A script that was handed over: which one, how nice, and whether a child came of it.
+/// A script that was started: which one, how nice, and whether a child came of it.
 #[derive(Drop)]
 pub struct Handed {
     pub number: u32,

@@ -17,7 +17,7 @@ pub enum EnterFault {
     Memory,
 }
 
-/// Why a call on the spool folder did not succeed.
+/// Why a call on the spool directory did not succeed.
 #[derive(Clone, Copy, Debug, PartialEq, Eq)]
 pub enum HostFault {
     Failed,

@@ -1,26 +1,26 @@
-//! A spool folder, its lock and the children that are started from it.
+//! A spool directory, its lock and the children that are started from it.
 ghost use Rattle.std.specs.Prelude.{◌≡◌, ◌≢◌, ◌≤◌, Bool, Contains, IsTrue, IsSome, IsErrOf, IfOk, length, vec_len};
 ghost use Rattle.std.specs.FinMap as map;
 ghost use Rattle.host_calls.specs.Causes.{HasCause, Rose};
-ghost use Rattle.host_calls.specs.Folder.{IsInNoImage, IsMade, IsMadeInPart, IsWritten, IsWrittenInPart, IsSynced, IsRenamed, IsRemoved, HasNamesSynced, IsSettled, IsSyncedInPart};
+ghost use Rattle.host_calls.specs.Directory.{IsInNoImage, IsMade, IsMadeInPart, IsWritten, IsWrittenInPart, IsSynced, IsRenamed, IsRemoved, HasNamesSynced, IsSettled, IsSyncedInPart};
 ghost use Rattle.host_calls.specs.Session.{CallsInside, Session, IsInside, IsOutside, StaysInside, Enters, IsLeft, Starts};
 ghost use Rattle.host_calls.specs.World.{World, FileCall, StartCall, Asks, TimePasses, reading, size_of, bytes_from, IsWithinFile};
 
 use crate::{Child, Ending, EnterFault, HostFault, Name, StartFault};
 use std::alloc::{AllocError, Global};
 
-/// One spool folder. The work between `enter` and `leave` is a session.
+/// One spool directory. The work between `enter` and `leave` is a session.
 pub trait Host {
-    /// Whether it tells its files.
+    /// Whether it exposes its files.
     ghost tells: { Bool };
 
-    /// Whether nobody else changes the folder.
+    /// Whether nobody else changes the directory.
     ghost alone: { Bool };
 
     /// What every host tells.
     ghost session: { Self → Session };
 
-    /// Each moment so far. It is meant only where the host tells its files.
+    /// Each moment so far. It is meant only where the host exposes its files.
     ghost world: { Self → World };
 
     /// Begins a session.
@@ -72,15 +72,15 @@ pub trait Host {
         ensures bytes { IsTrue tells
             → IfOk result (λ bytes. bytes_from (reading (world self.old)) name.now offset most ≡ Some bytes.items) };
 
-    /// Makes a file with these bytes. Neither its name nor its bytes are certain then.
+    /// Makes a file with these bytes. Neither its name nor its bytes are durable then.
     fn create(&mut self, alloc: Global, name: &Name, bytes: &[u8]) -> Result<(), HostFault>
         requires inside { IsInside (session self.old) }
-        requires new_name { IsTrue tells → IsInNoImage (world self.old).now.folder name.now }
+        requires new_name { IsTrue tells → IsInNoImage (world self.old).now.directory name.now }
         ensures inside { CallsInside HostFault.Failed (session self.old) (session self.new) result }
         ensures files { IsTrue tells → FileCall (IsMade name.now bytes.now) (IsMadeInPart name.now bytes.now)
             (world self.old) (world self.new) result };
 
-    /// Writes over a range of a file. The range is uncertain then.
+    /// Writes over a range of a file. The range is not synced then.
     fn write(
         &mut self,
         alloc: Global,
@@ -96,7 +96,7 @@ pub trait Host {
             → FileCall (IsWritten name.now offset bytes.now) (IsWrittenInPart name.now offset bytes.now)
             (world self.old) (world self.new) result };
 
-    /// Makes the bytes of a file certain.
+    /// Syncs a file.
     fn sync(&mut self, alloc: Global, name: &Name) -> Result<(), HostFault>
         requires inside { IsInside (session self.old) }
         requires held { IsTrue tells → IsSome (map.get (reading (world self.old)) name.now) }
@@ -104,20 +104,20 @@ pub trait Host {
         ensures files { IsTrue tells
             → FileCall (IsSynced name.now) IsSyncedInPart (world self.old) (world self.new) result };
 
-    /// Makes the names certain.
+    /// Syncs the names.
     fn sync_names(&mut self, alloc: Global) -> Result<(), HostFault>
         requires { IsInside (session self.old) }
         ensures inside { CallsInside HostFault.Failed (session self.old) (session self.new) result }
         ensures files { IsTrue tells
             → FileCall HasNamesSynced IsSyncedInPart (world self.old) (world self.new) result };
 
-    /// Makes all of the folder certain, also what others left.
+    /// Syncs all of the directory, also what others left.
     fn settle(&mut self, alloc: Global) -> Result<(), HostFault>
         requires { IsInside (session self.old) }
         ensures inside { CallsInside HostFault.Failed (session self.old) (session self.new) result }
         ensures files { IsTrue tells → FileCall IsSettled IsSyncedInPart (world self.old) (world self.new) result };
 
-    /// Moves a file to another name, and replaces what stands there. The change is not certain then.
+    /// Moves a file to another name, and replaces what is there. The change is not durable then.
     fn rename(&mut self, alloc: Global, from: &Name, to: &Name) -> Result<(), HostFault>
         requires inside { IsInside (session self.old) }
         requires held { IsTrue tells → IsSome (map.get (reading (world self.old)) from.now) }
@@ -125,7 +125,7 @@ pub trait Host {
         ensures files { IsTrue tells → FileCall (IsRenamed from.now to.now) (IsRenamed from.now to.now)
             (world self.old) (world self.new) result };
 
-    /// Removes a file. The change is not certain then.
+    /// Removes a file. The change is not durable then.
     fn remove(&mut self, alloc: Global, name: &Name) -> Result<(), HostFault>
         requires inside { IsInside (session self.old) }
         requires held { IsTrue tells → IsSome (map.get (reading (world self.old)) name.now) }
@@ -134,7 +134,7 @@ pub trait Host {
             → FileCall (IsRemoved name.now) (IsRemoved name.now) (world self.old) (world self.new) result };
 
     /// Hands the script in the named file over, under this number and niceness. Where no child could be
-    /// started, it counts as handed over too.
+    /// started, it counts as started too.
     fn start(
         &mut self,
         alloc: Global,

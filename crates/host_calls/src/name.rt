@@ -1,4 +1,4 @@
-//! Names of files in the spool folder.
+//! Names of files in the spool directory.
 ghost use Rattle.std.specs.Prelude.{◌≡◌, ◌↔◌, ◌==◌, IsTrue, IsSome, IfSome, nat_eq, refl};
 ghost use Rattle.std.specs.Ordering.{nat_cmp, as_partial_cmp};
 ghost use Rattle.std.specs.Cmp.Lexicographic.{pointwise, slice_cmp};
@@ -13,7 +13,7 @@ use std::marker::Model;
 /// The greatest length of a name.
 pub const MAX_NAME: usize = 64;
 
-/// The name of a plain file in the spool folder: 1 to 64 ASCII letters, digits, `.`, `_` and `-`,
+/// The name of a plain file in the spool directory: 1 to 64 ASCII letters, digits, `.`, `_` and `-`,
 /// and neither `.` nor `..`. A contract sees it as its bytes.
 #[derive(Clone, Copy)]
 pub struct Name {

@@ -5,7 +5,7 @@ ghost use Rattle.host_calls.specs.Clock.{Answers, Readers, with_now, with_load, 
 
 /// A clock, the load of the machine, and rest.
 pub trait Readings {
-    /// Whether it tells its answers.
+    /// Whether it exposes its answers.
     ghost tells: { Bool };
 
     /// The answers so far. They are meant only where they are told.

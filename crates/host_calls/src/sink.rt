@@ -6,9 +6,9 @@ ghost use Rattle.host_calls.specs.Sink.{Outlet, Puts};
 use crate::SinkFault;
 use std::alloc::Global;
 
-/// Standard output, standard error, or what stands for them.
+/// Standard output, standard error, or what is for them.
 pub trait Sink {
-    /// Whether it tells its content.
+    /// Whether it exposes its content.
     ghost tells: { Bool };
 
     /// The bytes that were put. They are meant only where they are told.

@@ -11,10 +11,10 @@ use thiserror::Error;
 /// Why a call of the store did not succeed.
 #[derive(Clone, Copy, Error)]
 pub enum StoreFault {
-    /// A call on the spool folder failed.
+    /// A call on the spool directory failed.
     #[error("spool fault")]
     FileFault,
-    /// The folder shows a damage.
+    /// The directory shows a damage.
     #[error("damaged at {}", .0.offset)]
     Damaged(Damage),
     /// There are as many live jobs as there may be.

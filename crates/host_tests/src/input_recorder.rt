@@ -1,11 +1,11 @@
-//! Inputs that tell nothing and note each call.
+//! Inputs that expose nothing and note each call.
 ghost use Rattle.std.specs.Prelude.{[], false, refl};
-ghost use Rattle.witnessed_host.specs.Nothing.{no_contents};
+ghost use Rattle.witnessed_host.specs.EmptyWorld.{no_contents};
 
 use crate::recorder::note;
 use host_calls::{Bytes, InputFault, Inputs};
 use std::alloc::Global;
-use witnessed_host::UntoldInputs;
+use witnessed_host::UnmodelledInputs;
 
 /// Note each call with what it was given, a line each. Standard input has what was noted.
 #[derive(Drop)]
@@ -24,8 +24,8 @@ impl InputRecorder {
     }
 }
 
-impl UntoldInputs for InputRecorder {
-    ghost untold = { refl };
+impl UnmodelledInputs for InputRecorder {
+    ghost unmodelled = { refl };
 }
 
 impl Inputs for InputRecorder {

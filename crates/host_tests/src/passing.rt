@@ -1,11 +1,11 @@
-//! A host and inputs beside a witness are called once for each call, with what that was given, and what they answered is
-//! passed on.
+//! A host and inputs next to a witness are called once for each call, with what that was given, and what they answered
+//! is passed on.
 use crate::input_recorder::InputRecorder;
 use crate::recorder::Recorder;
 use host_calls::{Child, Ending, Host, Inputs, Name};
 use std::process::Abort;
 use std::test::Fail;
-use witnessed_host::{Silent, Witnessed, WitnessedInputs};
+use witnessed_host::{Unchecked, Witnessed, WitnessedInputs};
 
 // A line for each call on the files.
 const FILE_CALLS: &[u8] =
@@ -21,7 +21,7 @@ fn name(rt: &impl Abort, text: &[u8]) -> Name {
 #[test]
 fn file_calls_are_passed_on(rt: HostRuntime) -> Result<(), Fail> {
     let alloc = rt.alloc();
-    let mut host = Witnessed::new(Recorder::new(alloc), Silent);
+    let mut host = Witnessed::new(Recorder::new(alloc), Unchecked);
     assert!(rt; host.enter(alloc).is_ok());
     let names = host.names(alloc).expect(&rt, "names");
     assert!(rt; names.as_slice() == [name(&rt, b"a")].as_slice());
@@ -46,7 +46,7 @@ fn file_calls_are_passed_on(rt: HostRuntime) -> Result<(), Fail> {
 #[test]
 fn other_calls_are_passed_on(rt: HostRuntime) -> Result<(), Fail> {
     let alloc = rt.alloc();
-    let mut host = Witnessed::new(Recorder::new(alloc), Silent);
+    let mut host = Witnessed::new(Recorder::new(alloc), Unchecked);
     assert!(rt; host.enter(alloc).is_ok());
     let child = host
         .start(alloc, 7, &name(&rt, b"a"), 2)
@@ -65,7 +65,7 @@ fn other_calls_are_passed_on(rt: HostRuntime) -> Result<(), Fail> {
 #[test]
 fn calls_on_inputs_are_passed_on(rt: HostRuntime) {
     let alloc = rt.alloc();
-    let mut inputs = WitnessedInputs::new(InputRecorder::new(alloc), Silent);
+    let mut inputs = WitnessedInputs::new(InputRecorder::new(alloc), Unchecked);
     let found = inputs.file(alloc, "a/b", 6).expect(&rt, "a file");
     assert_eq!(rt; found.as_slice(), b"of the".as_slice());
     let calls = inputs.standard(alloc, 1000).expect(&rt, "lines");

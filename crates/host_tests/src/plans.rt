@@ -1,6 +1,6 @@
 //! What the host does as planned.
 ghost use Rattle.std.specs.Prelude.{ℕ, List, Contains};
-ghost use Rattle.host_calls.specs.Folder.{IsInNoImage};
+ghost use Rattle.host_calls.specs.Directory.{IsInNoImage};
 ghost use Rattle.host_calls.specs.Session.{IsInside, IsOutside};
 ghost use Rattle.memory_host.specs.Host.{memory_session, memory_world};
 
@@ -28,7 +28,7 @@ fn no_plan(alloc: Global) -> Plan {
 // A host without a file, inside a session.
 fn empty_host(rt: &impl Abort, alloc: Global) -> MemoryHost
     ensures inside { IsInside (memory_session result) }
-    ensures empty { (name : List ℕ) → IsInNoImage (memory_world result).now.folder name }
+    ensures empty { (name : List ℕ) → IsInNoImage (memory_world result).now.directory name }
 {
     let files = Files::new(alloc);
     let mut host = MemoryHost::make(alloc, files, no_plan(alloc)).expect(rt, "memory");

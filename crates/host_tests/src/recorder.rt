@@ -1,10 +1,10 @@
-//! A host that tells nothing and notes each call.
+//! A host that exposes nothing and notes each call.
 ghost use Rattle.std.specs.Prelude.{◌≡◌, [], None, false, option_to_list, refl};
-ghost use Rattle.witnessed_host.specs.Nothing.{empty_world};
+ghost use Rattle.witnessed_host.specs.EmptyWorld.{empty_world};
 
 use host_calls::{Child, Ending, EnterFault, Host, HostFault, Name, StartFault};
 use std::alloc::{AllocError, Global};
-use witnessed_host::Untold;
+use witnessed_host::Unmodelled;
 
 /// Notes each call with what it was given, a line each. It has one child at most.
 #[derive(Drop)]
@@ -41,8 +41,8 @@ pub fn note(log: &mut Vec<u8>, call: &[u8], first: &[u8], second: &[u8]) -> Resu
     Ok(())
 }
 
-impl Untold for Recorder {
-    ghost untold = { refl };
+impl Unmodelled for Recorder {
+    ghost unmodelled = { refl };
 }
 
 impl Host for Recorder {

@@ -18,7 +18,7 @@ pub concat_push : (lines : List (List ℕ)) (line : List ℕ) → concat (lines 
 concat_push [] line = append-nil line
 concat_push (first ∷ lines) line = ap (λ (rest : List ℕ). first ++ rest) (concat_push lines line) ∙ sym (append_assoc first (concat lines) line)
 
--- one row more has one line more
+-- one more row has one more line
 pub one_more : (zone : Zone) (rows : List Row) (index : ℕ) (or : Row) (text line more : List ℕ) → index < length rows
     → ShowsRows zone (take index rows) text → ShowsRow zone (get_or rows index or) line → more ≡ text ++ line
     → ShowsRows zone (take (index + 1) rows) more

@@ -6,9 +6,9 @@ use Rattle.std.proofs.lemmas.List.{take-append-drop, take_more}
 use Rattle.host_calls.specs.World.{World}
 use Rattle.step_runs.specs.Current.{IsCurrent, Kept}
 use Rattle.spool_model.specs.JobTable.{JobTable, entry_at}
-use Rattle.cause_output.specs.declared.command_error.CommandError.{CommandError}
+use Rattle.tool_output.specs.declared.command_error.CommandError.{CommandError}
 use Rattle.command_rules.specs.Requested.{script_in, scripts_of}
-use Rattle.cause_output.specs.Sinks.{IsPut, IsPutInPart, SinkAt}
+use Rattle.tool_output.specs.Sinks.{IsPut, IsPutInPart, SinkAt}
 use Rattle.job_listing.specs.Scripts.{PutsScripts}
 
 -- scripts of two lists of numbers
@@ -32,8 +32,8 @@ module _ (files output : Bool) (kept : Kept) (numbers : List ℕ) (index or : �
     (done : Unit {0}) (inside : index < length numbers)
     (first : PutsScripts files output kept (take index numbers) old between was mid (Ok done)) where
   -- what was current before is so after a call that only looks
-  still_current : (table : JobTable) → files ≡ true → IsCurrent kept old.now.folder table → IsCurrent kept between.now.folder table
-  still_current table known current = subst (λ (world : World). IsCurrent kept world.now.folder table) (sym (first.looks known)) current
+  still_current : (table : JobTable) → files ≡ true → IsCurrent kept old.now.directory table → IsCurrent kept between.now.directory table
+  still_current table known current = subst (λ (world : World). IsCurrent kept world.now.directory table) (sym (first.looks known)) current
 
   -- one script more
   pub one_more : (value : Unit {0}) → PutsScripts files output kept (get_or numbers index or ∷ []) between new mid is (Ok value)

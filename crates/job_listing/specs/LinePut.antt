@@ -1,4 +1,4 @@
--- A line more after a text (own).
+-- Another line after a text (own).
 use Rattle.std.specs.Prelude.{◌≡◌, ◌++◌, ℕ, List}
 
 -- a line that shows what it is to show was put after the old text

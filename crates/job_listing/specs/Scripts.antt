@@ -6,10 +6,10 @@ use Rattle.step_runs.specs.Current.{IsCurrent, Kept}
 use Rattle.listing_text.specs.declared.cause.Cause.{Cause}
 use Rattle.listing_text.specs.declared.cause.Cause.TheVariants.{FileFault, OutputFault, Memory}
 use Rattle.spool_model.specs.JobTable.{JobTable}
-use Rattle.cause_output.specs.declared.command_error.CommandError.{CommandError}
-use Rattle.cause_output.specs.Causes.{error_of}
+use Rattle.tool_output.specs.declared.command_error.CommandError.{CommandError}
+use Rattle.tool_output.specs.Causes.{error_of}
 use Rattle.command_rules.specs.Requested.{scripts_of}
-use Rattle.cause_output.specs.Sinks.{IsPut, IsPutInPart, SinkAt}
+use Rattle.tool_output.specs.Sinks.{IsPut, IsPutInPart, SinkAt}
 
 -- a script could not be read or put, or there was no memory
 abbrev pub IsOfShowing : Cause → Type 0
@@ -34,5 +34,5 @@ pub record PutsScripts (files output : Bool) (kept : Kept) (numbers : List ℕ) 
   pub comes : IfErr result ComesOfShowing
   pub failed : IsErrOf result (error_of OutputFault) → Rose was.faults is.faults
   pub later : was.faults ≤ is.faults
-  pub puts : files ≡ true → output ≡ true → (table : JobTable) → IsCurrent kept old.now.folder table →
+  pub puts : files ≡ true → output ≡ true → (table : JobTable) → IsCurrent kept old.now.directory table →
       PutsScriptsBy (scripts_of table numbers) was is result

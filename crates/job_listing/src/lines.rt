@@ -1,7 +1,7 @@
 //! The lines of a listing.
 ghost use Rattle.std.specs.Prelude.{All, IfOk, OnOk};
 ghost use Rattle.civil_minute.specs.Zone.{IsReadable};
-ghost use Rattle.clock_range.specs.ClockRange.{IsClockMinute};
+ghost use Rattle.host_calls.specs.ClockRange.{IsClockMinute};
 ghost use Rattle.listing_text.specs.Listing.{ShowsRow};
 ghost use Rattle.job_listing.specs.LinePut.{IsLinePut};
 ghost use Rattle.job_listing.specs.inside.Lines.{ShowsRows};
@@ -27,7 +27,7 @@ pub(crate) fn lines(alloc: Global, rows: &[Row], zone: &Zone) -> Result<Vec<u8>,
     Ok(text)
 }
 
-// Puts the line of one row more after the text.
+// Puts the line of one more row after the text.
 fn put_row_line(alloc: Global, text: &mut Vec<u8>, row: &Row, zone: &Zone) -> Result<(), AllocError>
     requires zone { IsReadable zone.now }
     requires minute { IsClockMinute row.now.minute }

@@ -5,8 +5,8 @@ ghost use Rattle.step_runs.specs.Current.{IsCurrent};
 ghost use Rattle.listing_text.specs.declared.cause.Cause.TheVariants as cause;
 ghost use Rattle.spool_model.specs.JobTable.{JobTable};
 ghost use Rattle.spool_store.specs.Listed.{IsLive};
-ghost use Rattle.cause_output.specs.Causes.{error_of};
-ghost use Rattle.cause_output.specs.Sinks.{sink_at};
+ghost use Rattle.tool_output.specs.Causes.{error_of};
+ghost use Rattle.tool_output.specs.Sinks.{sink_at};
 ghost use Rattle.job_listing.specs.Scripts.{PutsScripts};
 
 use command_rules::CommandError;
@@ -25,7 +25,8 @@ pub fn put_scripts<H: Host, O: Sink>(
 ) -> Result<(), CommandError>
     requires inside { IsInside (H.session host.old) }
     requires live { All (IsLive store.now.table) numbers.now }
-    requires current { IsTrue H.tells → (table : JobTable) × IsCurrent store.now (H.world host.old).now.folder table }
+    requires current { IsTrue H.tells → (table : JobTable)
+        × IsCurrent store.now (H.world host.old).now.directory table }
     ensures inside { CallsInside (error_of cause.FileFault) (H.session host.old) (H.session host.new) result }
     ensures made_as { (O.outlet out.new).made_as ≡ (O.outlet out.old).made_as }
     ensures puts { PutsScripts H.tells O.tells store.now numbers.now (H.world host.old) (H.world host.new)
@@ -47,7 +48,8 @@ fn put_script<H: Host, O: Sink>(
 ) -> Result<(), CommandError>
     requires inside { IsInside (H.session host.old) }
     requires live { IsLive store.now.table number }
-    requires current { IsTrue H.tells → (table : JobTable) × IsCurrent store.now (H.world host.old).now.folder table }
+    requires current { IsTrue H.tells → (table : JobTable)
+        × IsCurrent store.now (H.world host.old).now.directory table }
     ensures inside { CallsInside (error_of cause.FileFault) (H.session host.old) (H.session host.new) result }
     ensures made_as { (O.outlet out.new).made_as ≡ (O.outlet out.old).made_as }
     ensures puts { PutsScripts H.tells O.tells store.now (number ∷ []) (H.world host.old) (H.world host.new)

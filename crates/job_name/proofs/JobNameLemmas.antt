@@ -8,8 +8,8 @@ use Rattle.std.proofs.lemmas.Bool.Decides.{nat_tests}
 use Rattle.std.proofs.lemmas.List.{drop-drop, take-append-drop, take_all, take-take, length-take, length-take-le}
 use Rattle.std.proofs.lemmas.List.Folds.{list_all-append}
 use Rattle.std.proofs.lemmas.Slice.{between_is, between-put_mid, take-put_mid_below}
-use Rattle.hex_digits.specs.Digits.{SpellsNumber}
-use Rattle.hex_digits.proofs.DigitLemmas.{are_alphanumeric, one_number, one_spelling}
+use Rattle.text_reader.specs.HexDigits.{SpellsNumber}
+use Rattle.text_reader.proofs.DigitLemmas.{are_alphanumeric, one_number, one_spelling}
 use Rattle.host_calls.specs.Names.{IsName, is_name_byte}
 use Rattle.spool_model.specs.Numbers.{number_digits}
 use Rattle.job_name.specs.JobName.{IsInRange, SpellsJobName}
@@ -132,7 +132,7 @@ written_text queue number minute digits new_form start some eight text digits_is
     ap (λ n. take (9 + n) (put_mid (1 + n) 8 (put_mid 1 n start some) eight)) (sym digits_is) ∙ sym written in
     subst (λ bytes. SpellsJobName bytes queue number minute new_form) same (spelled_text queue number minute new_form start some eight in_range counted begins (some_is ∙ digits_is) eight_is number_spelled minute_spelled)
 
--- letters and digits may stand in a name
+-- letters and digits may be in a name
 name_byte : (byte : ℕ) → is_ascii_alphanumeric byte ≡ true → is_name_byte byte ≡ true
 name_byte byte is = rw is refl
 

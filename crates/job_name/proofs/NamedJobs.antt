@@ -4,10 +4,10 @@ use Rattle.std.specs.Prelude.{◌==◌, ◌&&◌, slice_index, slice_range, nat_
 use Rattle.std.specs.Char.{is_ascii_alphabetic}
 use Rattle.std.specs.Option.{option_or}
 use Rattle.std.proofs.lemmas.Bool.Decides.{nat_tests}
-use Rattle.clock_range.specs.declared.range.TheConstants.{LAST_MINUTE}
-use Rattle.hex_digits.specs.Values.{number_in}
+use Rattle.host_calls.specs.declared.clock_seconds.TheConstants.{LAST_MINUTE}
+use Rattle.text_reader.specs.HexValues.{number_in}
 use Rattle.std.proofs.lemmas.Bool.{and_from, and_parts, eqb-true}
-use Rattle.hex_digits.proofs.ValueLemmas.{number_given, number_spelled}
+use Rattle.text_reader.proofs.ValueLemmas.{number_given, number_spelled}
 use Rattle.spool_model.specs.Numbers.{number_digits}
 use Rattle.job_name.specs.JobName.{IsInRange, NamedJob, SpellsJobName, job_in_range, job_named, job_spelled}
 use Rattle.job_name.proofs.JobNameLemmas.{one_name, one_text}

@@ -2,10 +2,10 @@
 use Rattle.std.specs.Prelude.{◌≡◌, ◌≤◌, ◌==◌, ◌&&◌, ◌+◌, ℕ, Bool, true, false, List, Option, Some, None, IsTrue, length, nat_le, slice_index, slice_range, if◌then◌else◌}
 use Rattle.std.specs.Char.{is_ascii_alphabetic}
 use Rattle.std.specs.Option.{option_or}
-use Rattle.clock_range.specs.ClockRange.{IsClockMinute}
-use Rattle.clock_range.specs.declared.range.TheConstants.{LAST_MINUTE}
-use Rattle.hex_digits.specs.Digits.{SpellsNumber}
-use Rattle.hex_digits.specs.Values.{number_in}
+use Rattle.host_calls.specs.ClockRange.{IsClockMinute}
+use Rattle.host_calls.specs.declared.clock_seconds.TheConstants.{LAST_MINUTE}
+use Rattle.text_reader.specs.HexDigits.{SpellsNumber}
+use Rattle.text_reader.specs.HexValues.{number_in}
 use Rattle.spool_model.specs.Numbers.{number_digits}
 
 -- a queue is a letter, a number at least 1, and a minute one of the clock's range

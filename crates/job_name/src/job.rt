@@ -1,13 +1,12 @@
 //! What the name of a job's file says.
 ghost use Rattle.std.specs.Prelude.{◌≡◌, ◌≤◌, ◌<◌, ◌^◌, ◌↔◌, ℕ, IsTrue};
 ghost use Rattle.std.specs.Char.{is_ascii_alphabetic};
-ghost use Rattle.clock_range.specs.ClockRange.{IsClockMinute};
+ghost use Rattle.host_calls.specs.ClockRange.{IsClockMinute};
 ghost use Rattle.spool_model.specs.Numbers.{number_digits};
 ghost use Rattle.job_name.specs.JobName.{IsInRange};
 
 use arrayvec::ArrayVec;
-use clock_range::LAST_MINUTE;
-use host_calls::Name;
+use host_calls::{LAST_MINUTE, Name};
 use spool_model::number_digits;
 
 /// How many bytes a job's name has in the new form.
@@ -55,8 +54,8 @@ impl JobName {
             return None;
         }
         let queue = bytes[0];
-        let number = hex_digits::read_hex(&bytes[1..1 + digits])? as u32;
-        let minute = hex_digits::read_hex(&bytes[1 + digits..9 + digits])? as u32;
+        let number = text_reader::read_hex(&bytes[1..1 + digits])? as u32;
+        let minute = text_reader::read_hex(&bytes[1 + digits..9 + digits])? as u32;
         if !is_in_range(queue, number, minute) {
             return None;
         }
@@ -74,8 +73,8 @@ impl JobName {
     {
         let digits = number_digits(self.new_form);
         let mut bytes = [self.queue; LENGTH];
-        hex_digits::write_hex(&mut bytes[1..1 + digits], self.number as u64);
-        hex_digits::write_hex(&mut bytes[1 + digits..9 + digits], self.minute as u64);
+        text_reader::write_hex(&mut bytes[1..1 + digits], self.number as u64);
+        text_reader::write_hex(&mut bytes[1 + digits..9 + digits], self.minute as u64);
         let mut text = ArrayVec::from(bytes);
         text.truncate(9 + digits);
         text

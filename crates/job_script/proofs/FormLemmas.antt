@@ -12,18 +12,18 @@ use Rattle.job_script.proofs.MeaningLemmas.{SameLine, after_name, line_parts, na
 use Rattle.job_script.proofs.RunLemmas.{Ends, both_hold, hold_both, pass_by_place, same_run}
 use Rattle.job_script.proofs.WordLemmas.{quoted_word}
 
--- the name that was read, and what stands after it
+-- the name that was read, and what is after it
 pub record ReadsName (bytes name rest : List ℕ) (count : ℕ) : Type 0 where
   pub runs : IsNameRun bytes count
   pub prefix : name ≡ take count bytes
   pub back : rest ≡ drop count bytes
 
--- the name and what stands after it are all
+-- the name and what is after it are all
 name_and_rest : (bytes name rest : List ℕ) (count : ℕ) → ReadsName bytes name rest count → bytes ≡ name ++ rest
 name_and_rest bytes name rest count r =
     sym (take-append-drop count bytes) ∙ (λ i. sym r.prefix i ++ sym r.back i)
 
--- the bytes of the name may stand in one
+-- the bytes of the name may be in one
 read_passes : (bytes name rest : List ℕ) (count : ℕ) → ReadsName bytes name rest count → IsTrue (list_all is_variable_byte name)
 read_passes bytes name rest count r =
     let long : length (take count bytes) ≡ count = length-take-le count bytes r.runs.within in
@@ -41,14 +41,14 @@ read_ends bytes name rest count r =
     ]
 
 -- what is kept may stand
-kept_stands : (variable : List ℕ × List ℕ) → IsTrue (is_kept_variable variable) → IsTrue (may_be_set variable.0)
-kept_stands variable keeps = (both_hold (may_be_set variable.0) (has_no_zero variable.1) keeps).0
+kept_holds : (variable : List ℕ × List ℕ) → IsTrue (is_kept_variable variable) → IsTrue (may_be_set variable.0)
+kept_holds variable keeps = (both_hold (may_be_set variable.0) (has_no_zero variable.1) keeps).0
 
 -- what is kept has no zero byte
 kept_has_no_zero : (variable : List ℕ × List ℕ) → IsTrue (is_kept_variable variable) → IsTrue (has_no_zero variable.1)
 kept_has_no_zero variable keeps = (both_hold (may_be_set variable.0) (has_no_zero variable.1) keeps).1
 
--- the name of a line that stands there is the one that was read
+-- the name of a line that is there is the one that was read
 record SameName (name rest other value more : List ℕ) : Type 0 where
   names : name ≡ other
   goes_on : rest ≡ after_name other (quoted value) more
@@ -58,27 +58,27 @@ same_name : (bytes name rest more : List ℕ) (count : ℕ) → ReadsName bytes 
 same_name bytes name rest more count r f =
     let both : (name ≡ f.variable.0) × (rest ≡ after_name f.variable.0 (quoted f.variable.1) more) =
     same_run is_variable_byte name f.variable.0 rest (after_name f.variable.0 (quoted f.variable.1) more)
-    (read_passes bytes name rest count r) (name_bytes f.variable.0 (kept_stands f.variable f.keeps))
+    (read_passes bytes name rest count r) (name_bytes f.variable.0 (kept_holds f.variable f.keeps))
     (read_ends bytes name rest count r) refl
     (sym (name_and_rest bytes name rest count r) ∙ f.text ∙ line_parts f.variable.0 (quoted f.variable.1) more) in
     record { names = both.0; goes_on = both.1 }
 
--- no line stands there where the name may not stand
+-- no line is there where the name may not stand
 pub no_name : (bytes name rest : List ℕ) (count : ℕ) → ReadsName bytes name rest count → false ≡ may_be_set name
     → (more : List ℕ) → ¬ IsLinePrefix bytes more
 no_name bytes name rest count r bad more f =
     let s : SameName name rest f.variable.0 f.variable.1 more = same_name bytes name rest more count r f in
-    let good : IsTrue (may_be_set f.variable.0) = kept_stands f.variable f.keeps in
+    let good : IsTrue (may_be_set f.variable.0) = kept_holds f.variable f.keeps in
     cc (bad, good, ap may_be_set s.names)
 
--- no line stands there where no sign does
+-- no line is there where no sign does
 pub no_sign : (bytes name rest : List ℕ) (count : ℕ) → ReadsName bytes name rest count
     → ((word : List ℕ) → rest ≢ (61 ∷ []) ++ word) → (more : List ℕ) → ¬ IsLinePrefix bytes more
 no_sign bytes name rest count r none more f =
     none (quoted f.variable.1 ++ (codes "; export " ++ (f.variable.0 ++ (10 ∷ more))))
     (same_name bytes name rest more count r f).goes_on
 
--- the word of a line that stands there
+-- the word of a line that is there
 line_word : (bytes name rest word more : List ℕ) (count : ℕ) → ReadsName bytes name rest count → rest ≡ (61 ∷ []) ++ word
     → (f : IsLinePrefix bytes more) → IsQuotedPrefix word (codes "; export " ++ (f.variable.0 ++ (10 ∷ more)))
 line_word bytes name rest word more count r sign f = record {
@@ -88,13 +88,13 @@ line_word bytes name rest word more count r sign f = record {
   ends = no_backslash 59 (codes " export " ++ (f.variable.0 ++ (10 ∷ more))) (λ same. omega arith);
 }
 
--- no line stands there where no word does
+-- no line is there where no word does
 pub no_word : (bytes name rest word : List ℕ) (count : ℕ) → ReadsName bytes name rest count → rest ≡ (61 ∷ []) ++ word
     → ((export : List ℕ) → ¬ IsQuotedPrefix word export) → (more : List ℕ) → ¬ IsLinePrefix bytes more
 no_word bytes name rest word count r sign none more f =
     none (codes "; export " ++ (f.variable.0 ++ (10 ∷ more))) (line_word bytes name rest word more count r sign f)
 
--- what stands after the word of a line that stands there
+-- what is after the word of a line that is there
 after_line_word : (bytes name rest word export more : List ℕ) (count : ℕ) → ReadsName bytes name rest count
     → rest ≡ (61 ∷ []) ++ word → IsQuotedPrefix word export → IsLinePrefix bytes more
     → export ≡ codes "; export " ++ (name ++ (10 ∷ more))
@@ -103,14 +103,14 @@ after_line_word bytes name rest word export more count r sign q f =
     (line_word bytes name rest word more count r sign f)).rest
     ∙ ap (λ (it : List ℕ). codes "; export " ++ (it ++ (10 ∷ more))) (sym (same_name bytes name rest more count r f).names)
 
--- no line stands there where nothing is exported
+-- no line is there where nothing is exported
 pub no_export : (bytes name rest word export : List ℕ) (count : ℕ) → ReadsName bytes name rest count
     → rest ≡ (61 ∷ []) ++ word → IsQuotedPrefix word export → ((again : List ℕ) → export ≢ codes "; export " ++ again)
     → (more : List ℕ) → ¬ IsLinePrefix bytes more
 no_export bytes name rest word export count r sign q none more f =
     none (name ++ (10 ∷ more)) (after_line_word bytes name rest word export more count r sign q f)
 
--- the name again, in a line that stands there
+-- the name again, in a line that is there
 again_is : (bytes name rest word export again more : List ℕ) (count : ℕ) → ReadsName bytes name rest count
     → rest ≡ (61 ∷ []) ++ word → IsQuotedPrefix word export → export ≡ codes "; export " ++ again → IsLinePrefix bytes more
     → again ≡ name ++ (10 ∷ more)
@@ -118,14 +118,14 @@ again_is bytes name rest word export again more count r sign q exports f =
     append_cancel_left (codes "; export ") again (name ++ (10 ∷ more))
     (sym exports ∙ after_line_word bytes name rest word export more count r sign q f)
 
--- no line stands there where the name isn't exported
+-- no line is there where the name isn't exported
 pub no_again : (bytes name rest word export again : List ℕ) (count : ℕ) → ReadsName bytes name rest count
     → rest ≡ (61 ∷ []) ++ word → IsQuotedPrefix word export → export ≡ codes "; export " ++ again
     → ((end : List ℕ) → again ≢ name ++ end) → (more : List ℕ) → ¬ IsLinePrefix bytes more
 no_again bytes name rest word export again count r sign q exports none more f =
     none (10 ∷ more) (again_is bytes name rest word export again more count r sign q exports f)
 
--- the newline ends the line of a variable, or none stands there
+-- the newline ends the line of a variable, or none is there
 pub line_read : (bytes name rest word export again end : List ℕ) (count : ℕ) (after : Option (Bor (List ℕ)))
     → ReadsName bytes name rest count → may_be_set name ≡ true → rest ≡ (61 ∷ []) ++ word → IsQuotedPrefix word export
     → export ≡ codes "; export " ++ again → again ≡ name ++ end
@@ -143,7 +143,7 @@ line_read bytes name rest word export again end count None r may sign q exports 
     λ more f. ends more (append_cancel_left name end (10 ∷ more)
     (sym named ∙ again_is bytes name rest word export again more count r sign q exports f))
 
--- one line more before lines
+-- one more line before lines
 pub lines_before : (bytes more : List ℕ) → IsLinePrefix bytes more → HasLines more → HasLines bytes
 lines_before bytes more f h = record {
   variables = f.variable ∷ h.variables;
@@ -159,12 +159,12 @@ lines_after_by : (bytes more rest : List ℕ) (variables : List (List ℕ × Lis
     → IsTrue (list_all is_kept_variable variables) → HasDirectory rest → bytes ≡ variable_lines variables ++ rest → HasLines more
 lines_after_by bytes more rest [] f keeps p same =
     absurd (no_line f.variable.0 (quoted f.variable.1) (quoted p.directory) more p.commands
-    (kept_stands f.variable f.keeps) (sym f.text ∙ same ∙ p.text))
+    (kept_holds f.variable f.keeps) (sym f.text ∙ same ∙ p.text))
 lines_after_by bytes more rest (v ∷ variables) f keeps p same =
     let each = both_hold (is_kept_variable v) (list_all is_kept_variable variables) keeps in
     let line : SameLine f.variable.0 v.0 f.variable.1 v.1 more (variable_lines variables ++ rest) =
     same_line f.variable.0 v.0 (quoted f.variable.1) (quoted v.1) f.variable.1 v.1 more (variable_lines variables ++ rest)
-    (kept_stands f.variable f.keeps) (kept_stands v each.0) (quoted_word f.variable.1) (quoted_word v.1)
+    (kept_holds f.variable f.keeps) (kept_holds v each.0) (quoted_word f.variable.1) (quoted_word v.1)
     (sym f.text ∙ same ∙ append_assoc (variable_line v.0 (quoted v.1)) (variable_lines variables) rest) in
     record { variables = variables; keeps = each.1; rest = rest; change = p; text = line.rest }
 

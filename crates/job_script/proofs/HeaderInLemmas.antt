@@ -96,7 +96,7 @@ header_in-reads bytes =
     (eqb (alike before_user bytes) 20 && not (eqb (length (user_in bytes)) 0))
     (eqb (flag_alike bytes false) 8) (eqb (flag_alike bytes true) 8) refl refl refl (is_read bytes)
 
--- the header that is read stands there
+-- the header that is read is there
 some_begins : (bytes user : List ℕ) (mail : Bool) (place : ℕ) (read : Option (List ℕ × Bool))
     → MatchOption read (IsHeaderFault bytes place) (λ found. BeginsWithHeader bytes found.0 found.1)
     → read ≡ Some (user, mail) → BeginsWithHeader bytes user mail
@@ -105,7 +105,7 @@ some_begins bytes user mail place (Some found) begins same =
     subst (λ (one : List ℕ × Bool). BeginsWithHeader bytes one.0 one.1) it begins
 some_begins bytes user mail place None fault same = absurd (cc same)
 
--- the header that stands there is read
+-- the header that is there is read
 begins_some : (bytes user : List ℕ) (mail : Bool) (place : ℕ) (read : Option (List ℕ × Bool))
     → MatchOption read (IsHeaderFault bytes place) (λ found. BeginsWithHeader bytes found.0 found.1)
     → BeginsWithHeader bytes user mail → read ≡ Some (user, mail)
@@ -175,11 +175,11 @@ flag_alike-take bytes mail =
     (λ i. alike (after_user mail) (drop (length (user i)) (rest i)))
     ∙ after-take (drop 20 bytes) (after_user mail) (length (user_in bytes)) (length-user_in bytes) (eight_after mail)
 
--- what stands before a user among the first 60 bytes
+-- what is before a user among the first 60 bytes
 before_user-take : (bytes : List ℕ) → alike before_user (take 60 bytes) ≡ alike before_user bytes
 before_user-take bytes = alike-take before_user bytes 60 (omega arith)
 
--- only the first 60 bytes matter to whether a user stands there
+-- only the first 60 bytes matter to whether a user is there
 has_user-take : (bytes : List ℕ) → has_user (take 60 bytes) ≡ has_user bytes
 unfolding has_user
 has_user-take bytes =

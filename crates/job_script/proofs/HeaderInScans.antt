@@ -8,13 +8,13 @@ use Rattle.spool_model.specs.Users.{is_user_byte}
 use Rattle.job_script.specs.HeaderIn.{alike, name_prefix}
 use Rattle.job_script.specs.inside.Scan.{Matches, IsUserRun}
 
--- one byte more that agrees
+-- one more byte that agrees
 same_before : (x : ℕ) (y : ℕ) (bytes text : List ℕ) (count : ℕ) → x ≡ y → Matches bytes text count
     → (k : ℕ) → k < suc count → get_or (y ∷ bytes) k 0 ≡ get_or (x ∷ text) k 0
 same_before x y bytes text count same m zero below = sym same
 same_before x y bytes text count same m (suc k) below = m.same k (omega arith)
 
--- one byte more before both texts
+-- one more byte before both texts
 alike_before : (x y : ℕ) (bytes text : List ℕ) (count : ℕ) (here : Bool) → eqb x y ≡ here → Matches bytes text count
     → Matches (y ∷ bytes) (x ∷ text) (cond here (suc count) 0)
 alike_before x y bytes text count true here m = record {
@@ -48,7 +48,7 @@ alike-matches (x ∷ text) [] = record {
 alike-matches (x ∷ text) (y ∷ bytes) =
     alike_before x y bytes text (alike text bytes) (eqb x y) refl (alike-matches text bytes)
 
--- the longest prefix of the bytes, of at most so many, that may stand in a user's name
+-- the longest prefix of the bytes, of at most so many, that may be in a user's name
 record IsPrefix (bytes run : List ℕ) (most : ℕ) : Type 0 where
   few : length run ≤ most
   within : length run ≤ length bytes
@@ -56,13 +56,13 @@ record IsPrefix (bytes run : List ℕ) (most : ℕ) : Type 0 where
   each : (k : ℕ) → k < length run → IsTrue (is_user_byte (get_or bytes k 0))
   stops : length run < most → length run < length bytes → is_user_byte (get_or bytes (length run) 0) ≡ false
 
--- one byte more of a name at each place
+-- one more byte of a name at each place
 each_before : (x : ℕ) (bytes run : List ℕ) (most : ℕ) → IsTrue (is_user_byte x) → IsPrefix bytes run most
     → (k : ℕ) → k < suc (length run) → IsTrue (is_user_byte (get_or (x ∷ bytes) k 0))
 each_before x bytes run most here f zero below = here
 each_before x bytes run most here f (suc k) below = f.each k (omega arith)
 
--- one byte more before such a prefix
+-- one more byte before such a prefix
 prefix_before : (x : ℕ) (bytes run : List ℕ) (most : ℕ) (here : Bool) → is_user_byte x ≡ here → IsPrefix bytes run most
     → IsPrefix (x ∷ bytes) (cond here (x ∷ run) []) (suc most)
 prefix_before x bytes run most true here f = record {
@@ -100,7 +100,7 @@ taken_prefix (suc most) (x ∷ bytes) =
     subst (λ (run : List ℕ). IsPrefix (x ∷ bytes) run (suc most)) (sym (take_while-cons is_user_byte x (take most bytes)))
     (prefix_before x bytes (take_while is_user_byte (take most bytes)) most (is_user_byte x) refl (taken_prefix most bytes))
 
--- what stands at the start of the bytes as a user's name
+-- what is at the start of the bytes as a user's name
 pub record IsNamePrefix (bytes run : List ℕ) : Type 0 where
   pub runs : IsUserRun bytes (length run)
   pub prefix : run ≡ take (length run) bytes

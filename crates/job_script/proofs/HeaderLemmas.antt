@@ -45,7 +45,7 @@ is_no_prefix bytes text rest count m short same =
     let here : get_or (text ++ rest) count 0 ≡ get_or text count 0 = get_or_append_left text rest 0 count short in
     m.stops short (omega arith) (ap (λ (it : List ℕ). get_or it count 0) same ∙ here)
 
--- what stands after a user begins with no byte of a name
+-- what is after a user begins with no byte of a name
 pub ends_there : (mail : Bool) (rest : List ℕ) → EndsUser (after_user mail ++ rest)
 ends_there true rest = refl
 ends_there false rest = refl
@@ -68,7 +68,7 @@ one_flag true false x y same =
 one_flag false true x y same =
     absurd (unlike _ _ refl refl (sym (ap (λ (it : List ℕ). get_or it 6 0) same)))
 
--- the flag stands alone at the end of a header
+-- the flag is alone at the end of a header
 pub ends_alone : (mail : Bool) → EndsUser (after_user mail)
 ends_alone true = refl
 ends_alone false = refl
@@ -134,7 +134,7 @@ fault_before bytes count m short = record {
       (get_or_append_left before_user (f.user ++ after_user f.mail) 0 count short) f.text;
 }
 
--- no user's name begins there: another byte stands there, or a dash
+-- no user's name begins there: another byte is there, or a dash
 abbrev pub NoName : List ℕ → Type 0
 NoName [] = Unit {0}
 NoName (x ∷ xs) = (is_user_byte x ≡ false) ⊎ (x ≡ 45)
@@ -163,7 +163,7 @@ ends_in_prefix [] more count some within ends = absurd (omega arith)
 ends_in_prefix (a ∷ x) more zero some within ends = absurd (omega arith)
 ends_in_prefix (a ∷ x) more (suc count) some within ends = ends
 
--- a prefix of a header that reaches after what stands before the user
+-- a prefix of a header that reaches after what is before the user
 pub prefix_after : (x : List ℕ) (f : IsHeaderPrefix (before_user ++ x)) → f.user ++ after_user f.mail ≡ x ++ f.rest
 prefix_after x f =
     append_cancel_left before_user (f.user ++ after_user f.mail) (x ++ f.rest)
@@ -206,7 +206,7 @@ pub most_in_prefix : (u x more : List ℕ) (count : ℕ) → 0 < count → count
 most_in_prefix u x more count some within (inl full) = inl full
 most_in_prefix u x more count some within (inr ends) = inr (ends_in_prefix x more count some within ends)
 
--- how far what stands after the user agrees with each spelling of the flag
+-- how far what is after the user agrees with each spelling of the flag
 pub record MatchesFlags (tail : List ℕ) (count : Bool → ℕ) (most : ℕ) : Type 0 where
   pub each : (mail : Bool) → Matches tail (after_user mail) (count mail)
   pub short : (mail : Bool) → count mail < 8

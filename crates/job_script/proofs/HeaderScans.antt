@@ -97,7 +97,7 @@ some_run rest count run name =
     let long : length (take count rest) ≡ count = length-take-le count rest run.within in
     omega (arith, name.some)
 
--- what stands before the user stands there whole
+-- what is before the user is there whole
 pub whole_prefix : (bytes rest : List ℕ) (before : ℕ) → Matches bytes before_user before → 20 ≤ before
     → rest ≡ drop before bytes → bytes ≡ before_user ++ rest
 whole_prefix bytes rest before m far later =
@@ -105,7 +105,7 @@ whole_prefix bytes rest before m far later =
     let whole : before ≡ length before_user = omega arith in
     matched_whole bytes before_user before m whole ∙ ap (λ (it : List ℕ). before_user ++ it) (sym later)
 
--- the run and what follows it are all that stands there
+-- the run and what follows it are all that is there
 pub run_and_rest : (rest user tail : List ℕ) (count : ℕ) → user ≡ take count rest → tail ≡ drop count rest → rest ≡ user ++ tail
 run_and_rest rest user tail count prefix later =
     sym (take-append-drop count rest)

@@ -11,7 +11,7 @@ use Rattle.job_script.proofs.PrefixLemmas.{no_backslash, same_quoted}
 use Rattle.job_script.proofs.HeaderLemmas.{eight_after, one_header}
 use Rattle.job_script.proofs.MeaningLemmas.{directory_parts, same_umask}
 
--- a text after a test that it is there
+-- a text after a test that it exists
 pub slash_there : (word : List ℕ) (answer : Option (Bor (List ℕ)))
     → MatchOption answer ((more : List ℕ) → word ≢ (39 ∷ 47 ∷ []) ++ more) (λ more. word ≡ (39 ∷ 47 ∷ []) ++ more.now)
     → is_some answer ≡ true → (more : List ℕ) × (word ≡ 39 ∷ 47 ∷ more)
@@ -37,7 +37,7 @@ first_is_slash (b ∷ value) rest more same =
     (sym (ap (λ (it : List ℕ). it ++ rest) (append_assoc (quoted_part b) (flat_map quoted_part value) (39 ∷ []))
     ∙ append_assoc (quoted_part b) (flat_map quoted_part value ++ 39 ∷ []) rest) ∙ tails)
 
--- the directory of such a text is a value that stands there
+-- the directory of such a text is a value that is there
 pub directory_prefix : (bytes word : List ℕ) → bytes ≡ (99 ∷ 100 ∷ 32 ∷ []) ++ word → (p : HasDirectory bytes)
     → IsQuotedPrefix word (after_directory ++ p.commands)
 directory_prefix bytes word prefix p = record {
@@ -48,7 +48,7 @@ directory_prefix bytes word prefix p = record {
   ends = no_backslash 32 (drop 1 after_directory ++ p.commands) (λ same. omega arith);
 }
 
--- what stands after the directory tells whether it is such a text
+-- what is after the directory tells whether it is such a text
 pub directory_read : (bytes word more rest : List ℕ) (answer : Option (Bor (List ℕ))) (result : Bool)
     → bytes ≡ (99 ∷ 100 ∷ 32 ∷ []) ++ word → word ≡ 39 ∷ 47 ∷ more → IsQuotedPrefix word rest
     → MatchOption answer ((end : List ℕ) → rest ≢ after_directory ++ end) (λ end. rest ≡ after_directory ++ end.now)
@@ -74,7 +74,7 @@ length-header : (user : List ℕ) (mail : Bool) → length (header_text user mai
 length-header user mail =
     omega (arith, length-append before_user (user ++ after_user mail), length-append user (after_user mail), eight_after mail)
 
--- what stands after the header that was read
+-- what is after the header that was read
 pub after_header : (bytes rest user : List ℕ) (mail : Bool) (h : BeginsWithHeader bytes user mail)
     → rest ≡ drop (28 + length user) bytes → rest ≡ h.rest
 after_header bytes rest user mail h back =
@@ -85,7 +85,7 @@ after_header bytes rest user mail h back =
 abbrev pub lines_of : JobMeaning → List ℕ
 lines_of job = variable_lines job.variables ++ (directory_lines (quoted job.directory) ++ job.commands)
 
--- what stands after the header of a job text
+-- what is after the header of a job text
 job_after : (bytes user : List ℕ) (mail : Bool) (h : BeginsWithHeader bytes user mail) (j : IsJobText bytes)
     → h.rest ≡ umask_line j.job.umask ++ lines_of j.job
 job_after bytes user mail h j =

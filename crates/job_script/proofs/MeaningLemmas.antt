@@ -4,7 +4,7 @@ use Rattle.std.specs.List.{flat_map, list_all}
 use Rattle.std.proofs.lemmas.List.{append_assoc, append_cancel_left}
 use Rattle.job_script.specs.Header.{header_text}
 use Rattle.job_script.specs.JobText.{after_directory, directory_lines, umask_line, variable_line}
-use Rattle.job_script.specs.Meaning.{Piece, between_quotes, after_backslash, ArePieces, IsPiece, IsShellWord, Means, SetsVariables, spelling, stands_for}
+use Rattle.job_script.specs.Meaning.{Piece, between_quotes, after_backslash, ArePieces, IsPiece, IsShellWord, Means, SetsVariables, spelling, holds_for}
 use Rattle.job_script.specs.Variables.{are_variable_bytes, begins_variable, is_reserved, is_variable_byte, is_variable_name, may_be_set}
 use Rattle.std.specs.Prelude.{slice_index}
 use Rattle.job_script.proofs.HeaderLemmas.{one_header}
@@ -33,7 +33,7 @@ pub record SameThen (v w x y : List ℕ) : Type 0 where
 
 -- two pieces at the start of one text are one
 same_piece : (first second : Piece) (x y : List ℕ) → IsPiece first → IsPiece second → spelling first ++ x ≡ spelling second ++ y
-    → SameThen (stands_for first) (stands_for second) x y
+    → SameThen (holds_for first) (holds_for second) x y
 same_piece (between_quotes a) (between_quotes b) x y clean plain same =
     let tails : (a ++ 39 ∷ []) ++ x ≡ (b ++ 39 ∷ []) ++ y = cc same in
     let both : (a ≡ b) × (39 ∷ x ≡ 39 ∷ y) =
@@ -47,17 +47,17 @@ same_piece (after_backslash a) (after_backslash b) x y clean plain same = record
 -- two runs of pieces at the start of one text that end there stand for one value
 same_pieces : (ps qs : List Piece) (x y : List ℕ) → ArePieces ps → ArePieces qs → EndsWord x → EndsWord y
     → flat_map spelling ps ++ x ≡ flat_map spelling qs ++ y
-    → SameThen (flat_map stands_for ps) (flat_map stands_for qs) x y
+    → SameThen (flat_map holds_for ps) (flat_map holds_for qs) x y
 same_pieces [] [] x y each others xs ys same = record { value = refl; rest = same }
 same_pieces [] (q ∷ qs) x y each others xs ys same =
     absurd (no_piece q x (flat_map spelling qs ++ y) xs (same ∙ append_assoc (spelling q) (flat_map spelling qs) y))
 same_pieces (p ∷ ps) [] x y each others xs ys same =
     absurd (no_piece p y (flat_map spelling ps ++ x) ys (sym same ∙ append_assoc (spelling p) (flat_map spelling ps) x))
 same_pieces (p ∷ ps) (q ∷ qs) x y each others xs ys same =
-    let first : SameThen (stands_for p) (stands_for q) (flat_map spelling ps ++ x) (flat_map spelling qs ++ y) =
+    let first : SameThen (holds_for p) (holds_for q) (flat_map spelling ps ++ x) (flat_map spelling qs ++ y) =
     same_piece p q (flat_map spelling ps ++ x) (flat_map spelling qs ++ y) each.0 others.0
     (sym (append_assoc (spelling p) (flat_map spelling ps) x) ∙ same ∙ append_assoc (spelling q) (flat_map spelling qs) y) in
-    let more : SameThen (flat_map stands_for ps) (flat_map stands_for qs) x y =
+    let more : SameThen (flat_map holds_for ps) (flat_map holds_for qs) x y =
     same_pieces ps qs x y each.1 others.1 xs ys first.rest in
     record { value = λ i. first.value i ++ more.value i; rest = more.rest }
 
@@ -65,12 +65,12 @@ same_pieces (p ∷ ps) (q ∷ qs) x y each others xs ys same =
 pub same_word : (t u v w x y : List ℕ) → IsShellWord t v → IsShellWord u w → EndsWord x → EndsWord y
     → t ++ x ≡ u ++ y → SameThen v w x y
 same_word t u v w x y one two xs ys same =
-    let both : SameThen (flat_map stands_for one.pieces) (flat_map stands_for two.pieces) x y =
+    let both : SameThen (flat_map holds_for one.pieces) (flat_map holds_for two.pieces) x y =
     same_pieces one.pieces two.pieces x y one.each two.each xs ys
     (ap (λ (it : List ℕ). it ++ x) (sym one.spelled) ∙ same ∙ ap (λ (it : List ℕ). it ++ y) two.spelled) in
     record { value = one.meant ∙ both.value ∙ sym two.meant; rest = both.rest }
 
--- what stands after the name in a variable's line
+-- what is after the name in a variable's line
 abbrev pub after_name : List ℕ → List ℕ → List ℕ → List ℕ
 after_name name word rest = 61 ∷ (word ++ (codes "; export " ++ (name ++ (10 ∷ rest))))
 
@@ -120,7 +120,7 @@ no_line name word place x y may same =
     (name_bytes name may) refl refl refl (sym (line_parts name word x) ∙ same) in
     space_is_no_sign 32 61 refl refl (sym (cc both.1))
 
--- what stands after the word of the directory
+-- what is after the word of the directory
 abbrev pub after_word : List ℕ → List ℕ
 after_word commands = after_directory ++ commands
 

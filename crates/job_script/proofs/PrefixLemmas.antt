@@ -1,4 +1,4 @@
--- What stands at the start of a job text: its umask, and values between single quotes.
+-- What is at the start of a job text: its umask, and values between single quotes.
 use Rattle.std.proofs.Common.{◌≡◌, ◌≢◌, ◌<◌, ◌≤◌, ◌+◌, ◌-◌, ◌*◌, ◌/◌, ◌%◌, ℕ, Bool, true, false, not, eqb, cond, List, [], ◌∷◌, ◌++◌, IsTrue, Option, Some, None, Bor, length, get_or, drop, codes, refl, sym, ap, subst, ◌∙◌, arith}
 use Rattle.std.specs.Option.{MatchOption}
 use Rattle.std.specs.List.{flat_map}
@@ -80,7 +80,7 @@ quote_or_part b x y false here same = absurd (eqb-false b 39 here (cc same))
 part_before_quote : (b : ℕ) (x y : List ℕ) → quoted_part b ++ x ≡ 39 ∷ y → y ≡ 92 ∷ 39 ∷ 39 ∷ x
 part_before_quote b x y same = quote_or_part b x y (eqb b 39) refl same
 
--- a quote with what stands after it is one byte of a value, or none
+-- a quote with what is after it is one byte of a value, or none
 pub quote_read : (bytes rest : List ℕ) (end : Option (Bor (List ℕ))) → bytes ≡ 39 ∷ rest
     → MatchOption end ((more : List ℕ) → rest ≢ (92 ∷ 39 ∷ 39 ∷ []) ++ more) (λ more. rest ≡ (92 ∷ 39 ∷ 39 ∷ []) ++ more.now)
     → MatchOption end ((more : List ℕ) → ¬ IsPartPrefix bytes more) (λ more. IsPartPrefix bytes more.now)
@@ -105,7 +105,7 @@ pub record IsOpen (bytes rest : List ℕ) : Type 0 where
   pub no_zero : IsTrue (has_no_zero value)
   pub text : bytes ≡ 39 ∷ (flat_map quoted_part value ++ rest)
 
--- one byte more of the value
+-- one more byte of the value
 pub open_more : (bytes rest more : List ℕ) → IsOpen bytes rest → IsPartPrefix rest more → IsOpen bytes more
 open_more bytes rest more o p = record {
   value = o.value ++ p.byte ∷ [];
@@ -138,7 +138,7 @@ goes_on (b ∷ value) (c ∷ v) x y ends same =
     let more : GoesOn value v x y = goes_on value v x y ends both.1 in
     record { tail = more.tail; whole = λ i. sym both.0 i ∷ more.whole i; rest = more.rest }
 
--- after a value that is open, another that stands there goes on so
+-- after a value that is open, another that is there goes on so
 open_goes_on : (bytes rest more : List ℕ) (o : IsOpen bytes rest) (q : IsQuotedPrefix bytes more) → GoesOn o.value q.value rest more
 open_goes_on bytes rest more o q =
     goes_on o.value q.value rest more q.ends
@@ -160,7 +160,7 @@ tail_has_no_zero : (value tail : List ℕ) → IsTrue (has_no_zero (value ++ tai
 tail_has_no_zero value tail no_zero =
     (both_hold (has_no_zero value) (has_no_zero tail) (sym (list_all-append is_no_zero value tail) ∙ no_zero)).1
 
--- a value that stands there ends where no byte of it stands any more
+-- a value that is there ends where no byte of it stands any more
 pub ends_here : (bytes rest more : List ℕ) → IsOpen bytes rest → ((other : List ℕ) → ¬ IsPartPrefix rest other)
     → IsQuotedPrefix bytes more → rest ≡ 39 ∷ more
 ends_here bytes rest more o none q =
@@ -168,7 +168,7 @@ ends_here bytes rest more o none q =
     no_tail bytes rest more g.tail none
     (tail_has_no_zero o.value g.tail (subst (λ (it : List ℕ). IsTrue (has_no_zero it)) g.whole q.no_zero)) g.rest
 
--- the quote after the value closes it, or no value stands there
+-- the quote after the value closes it, or no value is there
 pub value_read : (bytes rest : List ℕ) (end : Option (Bor (List ℕ))) → IsOpen bytes rest
     → ((other : List ℕ) → ¬ IsPartPrefix rest other)
     → MatchOption end ((more : List ℕ) → rest ≢ (39 ∷ []) ++ more) (λ more. rest ≡ (39 ∷ []) ++ more.now)

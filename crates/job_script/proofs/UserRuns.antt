@@ -3,7 +3,7 @@ use Rattle.std.proofs.Common.{◌≡◌, ℕ, ◌<◌, ◌≤◌, ◌⊎◌, inl
 use Rattle.job_script.proofs.RunLemmas.{Ends, both_hold, pass_by_place, same_run}
 use Rattle.spool_model.specs.Users.{IsUserName, is_user_byte, are_user_bytes}
 
--- bytes that may each stand in a user's name
+-- bytes that may each are in a user's name
 pub users_by_place : (u : List ℕ) → ((k : ℕ) → k < length u → IsTrue (is_user_byte (get_or u k 0))) → IsTrue (are_user_bytes u)
 users_by_place u each = pass_by_place is_user_byte u each
 
@@ -16,7 +16,7 @@ pub same_user : (u v x y : List ℕ) → IsTrue (are_user_bytes u) → IsTrue (a
     → EndsUser x → EndsUser y → u ++ x ≡ v ++ y → (u ≡ v) × (x ≡ y)
 same_user u v x y us vs xs ys same = same_run is_user_byte u v x y us vs xs ys same
 
--- a run of bytes of a user's name is no longer than the name that stands there
+-- a run of bytes of a user's name is no longer than the name that is there
 pub no_longer : (u v x y : List ℕ) → IsTrue (are_user_bytes u) → EndsUser y → u ++ x ≡ v ++ y → length u ≤ length v
 no_longer [] v x y us ys same = omega arith
 no_longer (a ∷ u) [] x [] us ys same = absurd (cc same)
@@ -44,7 +44,7 @@ same_prefix (a ∷ u) (b ∷ v) x y long same =
 abbrev pub IsMost : List ℕ → List ℕ → Type 0
 IsMost u x = (length u ≡ 32) ⊎ EndsUser x
 
--- such a run is the name that stands there
+-- such a run is the name that is there
 pub is_the_name : (u v x y : List ℕ) → IsUserName u → IsUserName v → IsMost u x → EndsUser y
     → u ++ x ≡ v ++ y → (u ≡ v) × (x ≡ y)
 is_the_name u v x y name other (inl full) ys same =

@@ -5,7 +5,7 @@ use Rattle.std.proofs.lemmas.List.{append_assoc}
 use Rattle.std.proofs.lemmas.Bool.Decides.{nat_tests}
 use Rattle.job_script.specs.Header.{before_user}
 use Rattle.job_script.specs.JobText.{quoted, quoted_part, after_directory, variable_lines}
-use Rattle.job_script.specs.Meaning.{Piece, between_quotes, after_backslash, ArePieces, IsShellWord, SetsVariables, has_no_quote, spelling, stands_for}
+use Rattle.job_script.specs.Meaning.{Piece, between_quotes, after_backslash, ArePieces, IsShellWord, SetsVariables, has_no_quote, spelling, holds_for}
 use Rattle.job_script.specs.Variables.{may_be_set}
 
 -- a word whose first quote is open: the bytes up to the next quote, and the pieces after it
@@ -15,9 +15,9 @@ record IsOpened (value : List ℕ) : Type 0 where
   clean : IsTrue (has_no_quote run)
   each : ArePieces pieces
   spelled : flat_map quoted_part value ++ 39 ∷ [] ≡ run ++ (39 ∷ flat_map spelling pieces)
-  meant : value ≡ run ++ flat_map stands_for pieces
+  meant : value ≡ run ++ flat_map holds_for pieces
 
--- one byte more before such a word
+-- one more byte before such a word
 opens : (byte : ℕ) (value : List ℕ) (is_quote : Bool) → nat_eq byte 39 ≡ is_quote → IsOpened value → IsOpened (byte ∷ value)
 opens byte value true here o =
     let quote : byte ≡ 39 = grind (arith, nat_tests, here) in
@@ -57,7 +57,7 @@ quoted_word value =
       meant = o.meant;
     }
 
--- each of the variables may stand in a job
+-- each of the variables may be in a job
 abbrev pub MayAllBeSet : List (List ℕ × List ℕ) → Type 0
 MayAllBeSet [] = Unit {0}
 MayAllBeSet (variable ∷ others) = IsTrue (may_be_set variable.0) × MayAllBeSet others

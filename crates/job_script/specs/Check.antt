@@ -58,7 +58,7 @@ Checked context (Err EnvironmentTooLarge) =
     × (MAX_ENVIRONMENT < lines_length context.environment)
 Checked context _ = ⊥
 
--- the first fault of the context, and then that of the commands; want of memory alone is free
+-- the first fault of the context, and then that of the commands; an out-of-memory error alone is free
 abbrev pub Written : {T : Type 0} → Context → List ℕ → Result T ScriptFault → Type 0
 Written context commands (Ok _) = IsUsableContext context × (length commands ≤ MAX_COMMANDS)
 Written context commands (Err BadUser) = ¬ IsUserName context.user

@@ -4,11 +4,11 @@ use Rattle.std.specs.Prelude.{◌≡◌, ◌<◌, ◌≤◌, ℕ, Bool, List, �
 use Rattle.spool_model.specs.Users.{IsUserName}
 use Rattle.job_script.specs.declared.headers.JobHeader.{JobHeader}
 
--- what stands before the user
+-- what is before the user
 abbrev pub before_user : List ℕ
 before_user = codes "#!/bin/sh\n# at user="
 
--- what stands after the user: the flag of mail, and the end of the line
+-- what is after the user: the flag of mail, and the end of the line
 abbrev pub after_user : Bool → List ℕ
 after_user mail = if mail then codes " mail=1\n" else codes " mail=0\n"
 

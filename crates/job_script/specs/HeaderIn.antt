@@ -12,11 +12,11 @@ alike [] bytes = 0
 alike (x ∷ text) [] = 0
 alike (x ∷ text) (y ∷ bytes) = if x == y then suc (alike text bytes) else 0
 
--- the longest prefix of the bytes that may stand in a user's name, as long as one at most; none before a dash
+-- the longest prefix of the bytes that may be in a user's name, as long as one at most; none before a dash
 unfoldable pub name_prefix : List ℕ → List ℕ
 name_prefix bytes = if slice_index bytes 0 == 45 then [] else take_while is_user_byte (take MAX_USER_NAME bytes)
 
--- what stands where a header has its user
+-- what is where a header has its user
 unfoldable pub user_in : List ℕ → List ℕ
 user_in bytes = name_prefix (drop (length before_user) bytes)
 

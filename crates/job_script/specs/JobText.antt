@@ -28,7 +28,7 @@ variable_line name word = name ++ (61 ∷ (word ++ (codes "; export " ++ (name +
 abbrev pub variable_lines : List (List ℕ × List ℕ) → List ℕ
 variable_lines variables = flat_map (λ variable. variable_line variable.0 (quoted variable.1)) variables
 
--- what stands after the directory: the job ends where it can't change to it
+-- what is after the directory: the job ends where it can't change to it
 abbrev pub after_directory : List ℕ
 after_directory = codes " || {\n\techo 'Execution directory inaccessible' >&2\n\texit 1\n}\n"
 

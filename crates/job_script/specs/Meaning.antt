@@ -32,9 +32,9 @@ spelling (between_quotes bytes) = 39 ∷ (bytes ++ 39 ∷ [])
 spelling (after_backslash byte) = 92 ∷ byte ∷ []
 
 -- what a piece stands for
-abbrev pub stands_for : Piece → List ℕ
-stands_for (between_quotes bytes) = bytes
-stands_for (after_backslash byte) = byte ∷ []
+abbrev pub holds_for : Piece → List ℕ
+holds_for (between_quotes bytes) = bytes
+holds_for (after_backslash byte) = byte ∷ []
 
 -- the shell reads the text as one word with this value: a word has at least one piece
 pub record IsShellWord (text value : List ℕ) : Type 0 where
@@ -42,7 +42,7 @@ pub record IsShellWord (text value : List ℕ) : Type 0 where
   pub some : 1 ≤ length pieces
   pub each : ArePieces pieces
   pub spelled : text ≡ flat_map spelling pieces
-  pub meant : value ≡ flat_map stands_for pieces
+  pub meant : value ≡ flat_map holds_for pieces
 
 -- the text is a line for each variable in turn, which sets and exports it
 abbrev pub SetsVariables : List ℕ → List (List ℕ × List ℕ) → Type 0

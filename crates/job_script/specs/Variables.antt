@@ -19,7 +19,7 @@ is_reserved name = list_any (λ reserved. bytes_eq name reserved) reserved_names
 abbrev pub is_variable_byte : ℕ → Bool
 is_variable_byte byte = is_ascii_alphanumeric byte || byte == 95
 
--- each byte may stand in a variable's name
+-- each byte may be in a variable's name
 abbrev pub are_variable_bytes : List ℕ → Bool
 are_variable_bytes name = list_all is_variable_byte name
 

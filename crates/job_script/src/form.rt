@@ -27,7 +27,7 @@ pub fn is_job_text(bytes: &[u8]) -> bool
     }
 }
 
-// What stands after the text, if the bytes begin with it.
+// What is after the text, if the bytes begin with it.
 fn after<'a>(bytes: &'a [u8], text: &[u8]) -> Option<&'a [u8]>
     ensures { MatchOption result ((rest : List ℕ) → bytes.now ≢ text.now ++ rest)
         (λ rest. bytes.now ≡ text.now ++ rest.now) }
@@ -35,7 +35,7 @@ fn after<'a>(bytes: &'a [u8], text: &[u8]) -> Option<&'a [u8]>
     bytes.strip_prefix(text)
 }
 
-// What stands after the line of the umask.
+// What is after the line of the umask.
 fn after_umask(bytes: &[u8]) -> Option<&[u8]>
     ensures { MatchOption result ((rest : List ℕ) → ¬ IsUmaskPrefix bytes.now rest)
         (λ rest. IsUmaskPrefix bytes.now rest.now) }
@@ -54,7 +54,7 @@ fn is_octal(byte: u8) -> bool
     b'0' <= byte && byte <= b'7'
 }
 
-// Whether the lines of variables stand there, and then those that change the directory.
+// Whether the lines of variables are there, and then those that change the directory.
 fn has_lines(bytes: &[u8]) -> bool
     ensures { IsTrue result ↔ HasLines bytes.now }
 {
@@ -65,7 +65,7 @@ fn has_lines(bytes: &[u8]) -> bool
     has_directory(rest)
 }
 
-// What stands after the line of a variable.
+// What is after the line of a variable.
 fn after_variable(bytes: &[u8]) -> Option<&[u8]>
     ensures { MatchOption result ((rest : List ℕ) → ¬ IsLinePrefix bytes.now rest)
         (λ rest. IsLinePrefix bytes.now rest.now) }
@@ -81,7 +81,7 @@ fn after_variable(bytes: &[u8]) -> Option<&[u8]>
     after(end, b"\n")
 }
 
-// How many of the first bytes may stand in a variable's name.
+// How many of the first bytes may be in a variable's name.
 fn name_length(bytes: &[u8]) -> usize
     ensures { IsNameRun bytes.now result }
 {
@@ -93,7 +93,7 @@ fn name_length(bytes: &[u8]) -> usize
     bytes.len()
 }
 
-// Whether the lines stand there that change the directory.
+// Whether the lines are there that change the directory.
 fn has_directory(bytes: &[u8]) -> bool
     ensures { IsTrue result ↔ HasDirectory bytes.now }
 {
@@ -109,7 +109,7 @@ fn has_directory(bytes: &[u8]) -> bool
     }
 }
 
-// What stands after a value between single quotes.
+// What is after a value between single quotes.
 // It ends at the first quote that no `\''` follows. A job text has `;` or a space next: no other reading.
 fn after_quoted(bytes: &[u8]) -> Option<&[u8]>
     ensures { MatchOption result ((rest : List ℕ) → ¬ IsQuotedPrefix bytes.now rest)
@@ -122,7 +122,7 @@ fn after_quoted(bytes: &[u8]) -> Option<&[u8]>
     after(rest, b"'")
 }
 
-// What stands after one byte of a value, as it stands between single quotes.
+// What is after one byte of a value, as it stands between single quotes.
 fn after_part(bytes: &[u8]) -> Option<&[u8]>
     ensures { MatchOption result ((rest : List ℕ) → ¬ IsPartPrefix bytes.now rest)
         (λ rest. IsPartPrefix bytes.now rest.now) }

@@ -34,7 +34,7 @@ fn can_begin(byte: u8) -> bool
     byte.is_ascii_alphabetic() || byte == b'_'
 }
 
-/// Whether the byte may stand in a variable's name.
+/// Whether the byte may be in a variable's name.
 pub(crate) fn is_variable_byte(byte: u8) -> bool
     ensures { result ≡ is_variable_byte byte }
 {

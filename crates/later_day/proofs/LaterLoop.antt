@@ -13,7 +13,7 @@ use Rattle.later_day.specs.declared.entry.LaterEntry.TheVariants as known
 use Rattle.later_day.specs.declared.later.Later.{Later}
 use Rattle.later_day.specs.declared.later.Later.TheVariants.{Day, Post, Cron}
 use Rattle.later_day.specs.LaterDays.{IsLaterDay, IsLaterDayCut}
-use Rattle.later_day.specs.LaterHappening.{IsLaterEvent, IsLaterUnreported, LaterHappens}
+use Rattle.later_day.specs.LaterEventEffects.{IsLaterEvent, IsLaterUnreported, LaterHappens}
 use Rattle.later_day.specs.LaterMachines.{LaterMachine, first_later_machine, later_machine}
 use Rattle.later_day.specs.LaterOutcomes.{AreLaterDoneOn, IsLaterDoneOn, LaterOutcome, entries_of, later_events_of, later_machine_after}
 use Rattle.later_day.specs.Laws.{LaterOutcomesKeepTheirPromise}
@@ -90,7 +90,7 @@ module _ (program : List ℕ) (events : List Later) (count : ℕ) (entries : Lis
     keeps = law first so.outcomes so.done;
   }
 
-  -- no memory was found after them
+  -- memory ran out after them
   pub later_cut_after : LaterOutcomesKeepTheirPromise → (left : MemoryHost) → IsUnchanged now.at.host left → IsLaterDayCut events first left
   later_cut_after law left same = record {
     outcomes = so.outcomes;
@@ -127,7 +127,7 @@ later_cut_at_first law program events host = record {
   keeps = law (first_later_machine host program) [] tt;
 }
 
--- no session is on where no memory was found
+-- no session is on where memory ran out
 pub outside_unreported : (program : List ℕ) (event : Later) (now : LaterMachine) (left : MemoryHost) → IsLaterReady program now →
     IsLaterUnreported event now left → IsOutside (memory_session left)
 outside_unreported program (Day event) now left ready (inl same) = subst IsOutside (sym same.session) ready.day.outside

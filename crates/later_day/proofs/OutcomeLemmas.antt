@@ -2,7 +2,7 @@
 use Rattle.std.proofs.Common.{◌≡◌, ◌⊎◌, ◌++◌, ℕ, ℤ, Bool, true, false, List, [], ◌∷◌, sym, subst, inl, inr, map, Result, Ok, Err, Option}
 use Rattle.at_words.specs.declared.tool_request.ToolRequest.TheVariants as request
 use Rattle.at_words.specs.Requests.{request_of}
-use Rattle.cause_output.specs.declared.caller.Caller.{Caller}
+use Rattle.tool_output.specs.declared.caller.Caller.{Caller}
 use Rattle.command_rules.specs.Found.{Asked, Found}
 use Rattle.command_rules.specs.Requested.{forget_steps, removes, steps_asked}
 use Rattle.spool_model.specs.declared.step.Step.{Step}
@@ -13,14 +13,14 @@ use Rattle.step_runs.specs.Hands.{StartNothing}
 use Rattle.spool_model.specs.declared.turn_step.TurnStep.{TurnStep}
 use Rattle.spool_model.specs.declared.turn_step.TurnStep.TheVariants.{HandedOver, Ended, Interrupted, Forgotten}
 use Rattle.spool_model.specs.StepsOf.{steps_of_turn}
-use Rattle.day_events.specs.declared.event.Event.{Event}
-use Rattle.day_events.specs.declared.event.Event.TheVariants.{Command, Turn, Reboot}
-use Rattle.day_events.specs.declared.report.EventReport.{EventReport}
-use Rattle.day_events.specs.declared.report.EventReport.TheVariants as known
+use Rattle.at_day.specs.declared.event.Event.{Event}
+use Rattle.at_day.specs.declared.event.Event.TheVariants.{Command, Turn, Reboot}
+use Rattle.at_day.specs.declared.events_report.EventReport.{EventReport}
+use Rattle.at_day.specs.declared.events_report.EventReport.TheVariants as known
 use Rattle.headline.specs.Effects.{Crashed, Effect, IsEffectOf, Partial, Untouched, Whole, steps_begun}
 use Rattle.headline.proofs.ShownEffectLemmas.{effects_are_shown}
-use Rattle.mail_and_cron_events.specs.LaterEffects.{AcceptNothing, DoOneThing}
-use Rattle.mail_and_cron_events.proofs.EffectRestLemmas.{effects_leave_the_rest}
+use Rattle.later_day.specs.LaterEffects.{AcceptNothing, DoOneThing}
+use Rattle.later_day.proofs.EffectRestLemmas.{effects_leave_the_rest}
 use Rattle.at_day.specs.EventOutcomes.{AreCommandSteps, AreCommandStepsBy, AreEventSteps, AreStepsOfTurn, EventOutcome, IsCrashEffect, IsDoneOn, IsEventEffect, is_acknowledged}
 use Rattle.at_day.specs.Machines.{Machine, spool_of}
 use Rattle.later_day.specs.Laws.{DayOutcomesPass}

@@ -2,26 +2,26 @@
 use Rattle.std.proofs.Common.{◌≡◌, ◌<◌, ℕ, List, [], ◌∷◌, get_or, length, map, refl, subst, sym, arith}
 use Rattle.std.specs.Prelude.{AllPairs}
 use Rattle.std.proofs.lemmas.List.{get_or-map, length-map}
-use Rattle.day_events.specs.declared.event.Event.{Event}
-use Rattle.day_events.specs.declared.report.EventReport.{EventReport}
-use Rattle.mail_and_cron_events.specs.LaterEffects.{LaterPassFrom, LeavesTheRest}
-use Rattle.mail_and_cron_events.proofs.LaterLemmas.{later_events_hand_once}
+use Rattle.at_day.specs.declared.event.Event.{Event}
+use Rattle.at_day.specs.declared.events_report.EventReport.{EventReport}
+use Rattle.later_day.specs.LaterEffects.{LaterPassFrom, LeavesTheRest}
+use Rattle.later_day.proofs.LaterLemmas.{later_events_hand_once}
 use Rattle.at_mail.specs.Once.{MailEvent, MailEvents, a_session, another, next_event, no_event}
 use Rattle.at_mail.proofs.OnceLemmas.{notices_are_handed_once}
 use Rattle.cron_session.specs.Minutes.{AcceptApart, Beside, CronEvent, CronPassFrom, CronPassed, Ended, MayAcceptAt, PassesAs}
 use Rattle.cron_session.proofs.MinuteLemmas.{no_minute_comes_twice}
-use Rattle.mail_and_cron_events.specs.SessionsPass.{PassesBeside}
-use Rattle.mail_and_cron_events.proofs.CronLemmas.{cron_sessions_pass}
-use Rattle.mail_and_cron_events.proofs.MailLemmas.{mail_sessions_pass}
-use Rattle.mail_and_cron_events.proofs.RestLemmas.{beside_the_store_pass}
-use Rattle.at_day.specs.Happening.{Happens}
+use Rattle.later_day.specs.SessionsPass.{PassesBeside}
+use Rattle.later_day.proofs.CronLemmas.{cron_sessions_pass}
+use Rattle.later_day.proofs.MailLemmas.{mail_sessions_pass}
+use Rattle.later_day.proofs.RestLemmas.{beside_the_store_pass}
+use Rattle.at_day.specs.EventEffects.{Happens}
 use Rattle.at_day.specs.Machines.{Machine, spool_of}
 use Rattle.at_day.proofs.EffectLemmas.{happens_takes_effect}
 use Rattle.later_day.specs.declared.entry.LaterEntry.{LaterEntry}
 use Rattle.later_day.specs.declared.entry.LaterEntry.TheVariants as known
 use Rattle.later_day.specs.declared.later.Later.{Later}
 use Rattle.later_day.specs.declared.later.Later.TheVariants.{Day, Post, Cron}
-use Rattle.later_day.specs.LaterHappening.{IsLaterEvent, LaterHappens, cron_of_event}
+use Rattle.later_day.specs.LaterEventEffects.{IsLaterEvent, LaterHappens, cron_of_event}
 use Rattle.later_day.specs.LaterMachines.{LaterMachine, later_spool, post_at}
 use Rattle.later_day.specs.LaterOutcomes.{AreLaterDoneOn, LaterOutcome, later_machine_after, later_passed_of}
 use Rattle.later_day.specs.LaterPromise.{HasAcceptedAt, HaveAcceptedApart}

@@ -1,17 +1,17 @@
--- The kids of a daemon and of a post stay children of their host.
+-- The children of a daemon and of a post stay children of their host.
 use Rattle.std.proofs.Common.{◌≡◌, ◌∙◌, ℕ, List, [], append-nil, sym, ap, subst}
 use Rattle.std.proofs.lemmas.List.Elements.{Contains-append_left}
 use Rattle.at_day.proofs.OutcomeLemmas.{no_kids, ready_after}
 use Rattle.at_day.specs.Days.{IsMachineReady}
-use Rattle.at_day.specs.Happening.{Happens}
+use Rattle.at_day.specs.EventEffects.{Happens}
 use Rattle.at_day.specs.Machines.{machine_session}
 use Rattle.daemon_turn.specs.declared.kid.Kid.{Kid}
 use Rattle.daemon_turn.specs.Daemons.{DaemonState}
 use Rattle.daemon_turn.specs.Kids.{AreChildren, KeepsChildren}
-use Rattle.day_events.specs.declared.event.Event.{Event}
-use Rattle.day_events.specs.declared.event.Event.TheVariants.{Command, Turn, Reboot}
-use Rattle.day_events.specs.declared.report.EventReport.{EventReport}
-use Rattle.day_events.specs.declared.report.EventReport.TheVariants as reports
+use Rattle.at_day.specs.declared.event.Event.{Event}
+use Rattle.at_day.specs.declared.event.Event.TheVariants.{Command, Turn, Reboot}
+use Rattle.at_day.specs.declared.events_report.EventReport.{EventReport}
+use Rattle.at_day.specs.declared.events_report.EventReport.TheVariants as reports
 use Rattle.host_calls.specs.declared.child.Child.{Child}
 use Rattle.host_calls.specs.Session.{IsOutside}
 use Rattle.mail_session.specs.PostState.{PostState}
@@ -19,10 +19,11 @@ use Rattle.later_day.specs.declared.entry.LaterEntry.{LaterEntry}
 use Rattle.later_day.specs.declared.entry.LaterEntry.TheVariants as known
 use Rattle.later_day.specs.declared.later.Later.{Later}
 use Rattle.later_day.specs.declared.later.Later.TheVariants.{Day, Post, Cron}
-use Rattle.later_day.specs.LaterHappening.{IsPostAfter, LaterHappens}
+use Rattle.later_day.specs.LaterEventEffects.{IsPostAfter, LaterHappens}
 use Rattle.later_day.specs.LaterMachines.{LaterMachine}
 
--- No session is on, each kid of the daemon and of the post is a child of the host, and the post has this mail program.
+-- No session is on, each child of the daemon and of the post is a child of the host, and the post has this mail
+-- program.
 pub record IsLaterReady (program : List ℕ) (old : LaterMachine) : Type 0 where
   pub day : IsMachineReady old.at
   pub notices : AreChildren (machine_session old.at).children old.post.kids

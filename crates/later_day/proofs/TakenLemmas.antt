@@ -3,19 +3,19 @@ use Rattle.std.proofs.Common.{refl}
 use Rattle.at_day.proofs.EffectLemmas.{EventEffects, happens_takes_effect}
 use Rattle.at_day.specs.EventOutcomes.{EventOutcome, IsDoneOn}
 use Rattle.cron_session.specs.Steps.{Cron as CronOf}
-use Rattle.day_events.specs.declared.event.Event.{Event}
-use Rattle.day_events.specs.declared.report.EventReport.{EventReport}
+use Rattle.at_day.specs.declared.event.Event.{Event}
+use Rattle.at_day.specs.declared.events_report.EventReport.{EventReport}
 use Rattle.cron_session.specs.declared.report.CronReport.{CronReport}
 use Rattle.mail_session.specs.declared.report.PostReport.{PostReport}
-use Rattle.mail_and_cron_events.specs.LaterEffects.{Beside, LaterEffect, OfTable, TakesLaterEffect}
+use Rattle.later_day.specs.LaterEffects.{Beside, LaterEffect, OfTable, TakesLaterEffect}
 use Rattle.later_day.specs.declared.entry.LaterEntry.{LaterEntry}
 use Rattle.later_day.specs.declared.entry.LaterEntry.TheVariants as known
 use Rattle.later_day.specs.declared.later.Later.{Later}
 use Rattle.later_day.specs.declared.later.Later.TheVariants.{Day, Post, Cron}
-use Rattle.mail_and_cron_events.specs.SessionsPass.{PassesCron, PassesMail}
-use Rattle.mail_and_cron_events.proofs.CronLemmas.{cron_sessions_pass}
-use Rattle.mail_and_cron_events.proofs.MailLemmas.{mail_sessions_pass}
-use Rattle.later_day.specs.LaterHappening.{HappensOnDay, IsSessionOfMail, IsSessionOfCron, LaterHappens, cron_of_event}
+use Rattle.later_day.specs.SessionsPass.{PassesCron, PassesMail}
+use Rattle.later_day.proofs.CronLemmas.{cron_sessions_pass}
+use Rattle.later_day.proofs.MailLemmas.{mail_sessions_pass}
+use Rattle.later_day.specs.LaterEventEffects.{HappensOnDay, IsSessionOfMail, IsSessionOfCron, LaterHappens, cron_of_event}
 use Rattle.later_day.specs.LaterMachines.{LaterMachine, later_spool, post_at}
 use Rattle.later_day.specs.LaterOutcomes.{IsLaterEffect}
 use Rattle.later_day.proofs.OutcomeLemmas.{day_outcomes_pass}

@@ -1,12 +1,12 @@
--- An event of a day for which no memory was found, or none for the post after it.
+-- An event of a day for which memory ran out, or none for the post after it.
 use Rattle.std.proofs.Common.{refl, inl, inr}
-use Rattle.at_day.specs.Happening.{Happens, IsUnreported}
+use Rattle.at_day.specs.EventEffects.{Happens, IsUnreported}
 use Rattle.at_day.specs.Machines.{Machine}
-use Rattle.day_events.specs.declared.event.Event.{Event}
-use Rattle.day_events.specs.declared.event.Event.TheVariants.{Command, Turn, Reboot}
-use Rattle.day_events.specs.declared.report.EventReport.{EventReport}
+use Rattle.at_day.specs.declared.event.Event.{Event}
+use Rattle.at_day.specs.declared.event.Event.TheVariants.{Command, Turn, Reboot}
+use Rattle.at_day.specs.declared.events_report.EventReport.{EventReport}
 use Rattle.mail_session.specs.PostState.{PostState, new_post}
-use Rattle.later_day.specs.LaterHappening.{IsPostAfter, IsUnreportedOnDay}
+use Rattle.later_day.specs.LaterEventEffects.{IsPostAfter, IsUnreportedOnDay}
 use Rattle.later_day.specs.LaterMachines.{LaterMachine}
 
 -- the post that the event leaves

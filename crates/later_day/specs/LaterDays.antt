@@ -18,7 +18,7 @@ pub record IsLaterDay (events : List Later) (entries : List LaterEntry) (first :
   pub last_is : (later_machine_after first outcomes).at.host ≡ left
   pub keeps : KeepsLaterPromise first outcomes
 
--- No memory was found on the way: the first of the events have outcomes, the last of these perhaps not reported, and the host
+-- Memory ran out on the way: the first of the events have outcomes, the last of these perhaps not reported, and the host
 -- is as they left it.
 pub record IsLaterDayCut (events : List Later) (first : LaterMachine) (left : MemoryHost) : Type 0 where
   pub outcomes : List LaterOutcome

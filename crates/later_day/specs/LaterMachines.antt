@@ -1,9 +1,9 @@
 -- A machine on which mail is sent too, and a crontab kept, at one moment (own).
 use Rattle.std.specs.Prelude.{ℕ, List}
-use Rattle.cron_session.specs.Leaving.{CronAt}
+use Rattle.cron_session.specs.SessionOutcome.{CronAt}
 use Rattle.daemon_turn.specs.Daemons.{DaemonState}
 use Rattle.host_calls.specs.World.{World}
-use Rattle.mail_session.specs.Leaving.{PostSpool}
+use Rattle.mail_session.specs.SessionOutcome.{PostSpool}
 use Rattle.mail_session.specs.PostState.{PostState, new_post}
 use Rattle.memory_host.specs.declared.memory_host.MemoryHost.{MemoryHost}
 use Rattle.at_day.specs.Days.{first_machine}
@@ -17,7 +17,7 @@ pub record LaterMachine : Type 0 where
 abbrev pub later_machine : MemoryHost → DaemonState → PostState → LaterMachine
 later_machine host daemon post = record { at = machine host daemon; post = post }
 
--- the moments of its spool folder
+-- the moments of its spool directory
 abbrev pub later_spool : LaterMachine → World
 later_spool old = spool_of old.at
 
@@ -29,6 +29,6 @@ post_at old = record { session = machine_session old.at; world = spool_of old.at
 abbrev pub cron_at : LaterMachine → CronAt
 cron_at old = record { session = machine_session old.at; world = spool_of old.at }
 
--- the machine at first: its daemon watches no child, and its post, which has this mail program, has no kid
+-- the machine at first: its daemon watches no child, and its post, which has this mail program, has no child
 abbrev pub first_later_machine : MemoryHost → List ℕ → LaterMachine
 first_later_machine host program = record { at = first_machine host; post = new_post program }

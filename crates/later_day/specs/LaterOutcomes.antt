@@ -3,14 +3,14 @@
 use Rattle.std.specs.Prelude.{◌≡◌, [], ◌∷◌, List, map}
 use Rattle.headline.specs.Effects.{Effect}
 use Rattle.host_calls.specs.World.{reading}
-use Rattle.mail_and_cron_events.specs.LaterEffects.{Beside, LaterEffect, LaterPassed, OfTable, TakesLaterEffect}
-use Rattle.mail_and_cron_events.specs.SessionsPass.{IsCronEffect}
+use Rattle.later_day.specs.LaterEffects.{Beside, LaterEffect, LaterPassed, OfTable, TakesLaterEffect}
+use Rattle.later_day.specs.SessionsPass.{IsCronEffect}
 use Rattle.at_day.specs.EventOutcomes.{IsEventEffect}
 use Rattle.later_day.specs.declared.entry.LaterEntry.{LaterEntry}
 use Rattle.later_day.specs.declared.entry.LaterEntry.TheVariants as known
 use Rattle.later_day.specs.declared.later.Later.{Later}
 use Rattle.later_day.specs.declared.later.Later.TheVariants.{Day, Post, Cron}
-use Rattle.later_day.specs.LaterHappening.{IsLaterEvent, LaterHappens, cron_of_event}
+use Rattle.later_day.specs.LaterEventEffects.{IsLaterEvent, LaterHappens, cron_of_event}
 use Rattle.later_day.specs.LaterMachines.{LaterMachine, later_spool}
 
 -- the effect is on the table, and is so

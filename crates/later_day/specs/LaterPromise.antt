@@ -2,9 +2,9 @@
 -- of mail and of crontabs): the headline is true of the scripts of jobs; no notice is handed over twice; and no minute has
 -- two sessions of crontabs that accepted a job.
 use Rattle.std.specs.Prelude.{◌≡◌, ◌≢◌, [], ℕ, List, AllPairs}
-use Rattle.clock_range.specs.ClockRange.{minute_at}
+use Rattle.host_calls.specs.ClockRange.{minute_at}
 use Rattle.headline.specs.Headline.{Headline}
-use Rattle.mail_and_cron_events.specs.LaterEffects.{only_jobs, passed_jobs}
+use Rattle.later_day.specs.LaterEffects.{only_jobs, passed_jobs}
 use Rattle.at_mail.specs.Once.{HasOnceSince, HasWholeNotes}
 use Rattle.spool_model.specs.JobTable.{JobTable}
 use Rattle.step_runs.specs.Current.{EachShows}
@@ -25,11 +25,11 @@ abbrev pub HaveAcceptedApart : LaterOutcome → LaterOutcome → Type 0
 HaveAcceptedApart first second =
     (minute : ℕ) → HasAcceptedAt minute first.event first.entry → HasAcceptedAt minute second.event second.entry → ⊥
 
--- The promise of outcomes on a machine. The headline, of the scripts of jobs, where each image of the folder showed one
--- table; no notice twice, where each had a whole file of notes; and no minute twice.
+-- The promise of outcomes on a machine. The headline, of the scripts of jobs, where each image of the directory showed
+-- one table; no notice twice, where each had a whole file of notes; and no minute twice.
 pub record KeepsLaterPromise (first : LaterMachine) (outcomes : List LaterOutcome) : Type 0 where
-  pub jobs : (opening : JobTable) → EachShows (later_spool first).now.folder opening →
+  pub jobs : (opening : JobTable) → EachShows (later_spool first).now.directory opening →
       Headline opening (passed_jobs (later_passed_of outcomes)) (only_jobs (later_spool first))
-  pub notices : HasWholeNotes (later_spool first).now.folder →
+  pub notices : HasWholeNotes (later_spool first).now.directory →
       HasOnceSince (later_spool first).now.handed (later_spool (later_machine_after first outcomes)).now.handed
   pub minutes : AllPairs HaveAcceptedApart outcomes

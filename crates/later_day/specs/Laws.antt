@@ -2,14 +2,15 @@
 use Rattle.std.specs.Prelude.{List}
 use Rattle.host_calls.specs.World.{World}
 use Rattle.headline.specs.Effects.{Effect}
-use Rattle.mail_and_cron_events.specs.LaterEffects.{LeavesTheRest, OfTable, TakesLaterEffect}
+use Rattle.later_day.specs.LaterEffects.{LeavesTheRest, OfTable, TakesLaterEffect}
 use Rattle.at_day.specs.EventOutcomes.{EventOutcome, IsDoneOn}
 use Rattle.at_day.specs.Machines.{Machine, spool_of}
 use Rattle.later_day.specs.LaterMachines.{LaterMachine}
 use Rattle.later_day.specs.LaterOutcomes.{AreLaterDoneOn, LaterOutcome}
 use Rattle.later_day.specs.LaterPromise.{KeepsLaterPromise}
 
--- the effect leads from one world to another where notices are handed over too, and leaves alone what is beside the store
+-- the effect leads from one world to another where notices are handed over too, and leaves alone what is next to the
+-- store
 pub record PassesLater (effect : Effect) (old new : World) : Type 0 where
   pub later : TakesLaterEffect (OfTable effect) old new
   pub rest : LeavesTheRest old new

@@ -1,6 +1,10 @@
-pub mod Laws
+pub mod EffectLaws
+pub mod EventsLaws
 pub mod LaterDays
-pub mod LaterHappening
+pub mod LaterEffects
+pub mod LaterEventEffects
 pub mod LaterMachines
 pub mod LaterOutcomes
 pub mod LaterPromise
+pub mod Laws
+pub mod SessionsPass

@@ -1,11 +1,11 @@
 //! One event of a day, on a machine that has a post too.
 ghost use Rattle.std.specs.Prelude.{◌≡◌, true, IfOk, IsTrue, OnErr, OnOk};
 ghost use Rattle.daemon_turn.specs.Kids.{AreChildren};
-ghost use Rattle.day_events.specs.Days.{is_day_event};
+ghost use Rattle.at_day.specs.EventsDays.{is_day_event};
 ghost use Rattle.host_calls.specs.Session.{IsOutside};
 ghost use Rattle.mail_session.specs.PostState.{may_be_program};
 ghost use Rattle.memory_host.specs.Host.{memory_session};
-ghost use Rattle.later_day.specs.LaterHappening.{HappensOnDay, IsPostAfter, IsUnreportedOnDay};
+ghost use Rattle.later_day.specs.LaterEventEffects.{HappensOnDay, IsPostAfter, IsUnreportedOnDay};
 ghost use Rattle.later_day.specs.LaterMachines.{later_machine};
 
 use at_day::{Event, EventReport, one_event};

@@ -4,7 +4,7 @@ ghost use Rattle.host_calls.specs.Session.{IsOutside};
 ghost use Rattle.mail_session.specs.PostState.{may_be_program, new_post};
 ghost use Rattle.memory_host.specs.Host.{memory_session};
 ghost use Rattle.later_day.specs.LaterDays.{IsLaterDay, IsLaterDayCut};
-ghost use Rattle.later_day.specs.LaterHappening.{IsLaterEvent};
+ghost use Rattle.later_day.specs.LaterEventEffects.{IsLaterEvent};
 ghost use Rattle.later_day.specs.LaterMachines.{first_later_machine};
 
 use crate::one_event::one_later_event;
@@ -15,8 +15,8 @@ use mail_session::Post;
 use memory_host::MemoryHost;
 use std::alloc::{AllocError, Global};
 
-/// Makes the events happen, one after the other, with a daemon that has no kids at first, and a post that has none, for
-/// this mail program.
+/// Makes the events happen, one after the other, with a daemon that has no children at first, and a post that has none,
+/// for this mail program.
 pub fn later_day(
     alloc: Global,
     events: &[Later],

@@ -2,13 +2,13 @@
 ghost use Rattle.std.specs.Prelude.{◌↔◌, ◌≤◌, All, IsTrue, length};
 ghost use Rattle.civil_minute.specs.Zone.{IsReadable};
 ghost use Rattle.cron_text.specs.declared.crontab.TheConstants.{MAX_CRONTAB};
-ghost use Rattle.later_day.specs.LaterHappening.{IsCronEvent, IsLaterEvent, cron_of_event};
+ghost use Rattle.later_day.specs.LaterEventEffects.{IsCronEvent, IsLaterEvent, cron_of_event};
 
 use crate::Later;
+use at_day::is_day_event;
 use civil_minute::Zone;
-use clock_range::is_clock_second;
 use cron_text::{CronEntry, Entries, MAX_CRONTAB};
-use day_events::is_day_event;
+use host_calls::is_clock_second;
 use job_script::{Context, check};
 
 /// Whether each of the events may come.

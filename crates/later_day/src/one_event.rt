@@ -4,7 +4,7 @@ ghost use Rattle.daemon_turn.specs.Kids.{AreChildren};
 ghost use Rattle.host_calls.specs.Session.{IsOutside};
 ghost use Rattle.mail_session.specs.PostState.{may_be_program};
 ghost use Rattle.memory_host.specs.Host.{memory_session};
-ghost use Rattle.later_day.specs.LaterHappening.{IsLaterEvent, IsLaterUnreported, LaterHappens};
+ghost use Rattle.later_day.specs.LaterEventEffects.{IsLaterEvent, IsLaterUnreported, LaterHappens};
 ghost use Rattle.later_day.specs.LaterMachines.{later_machine};
 
 use crate::day_event::day_event;

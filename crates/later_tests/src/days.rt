@@ -75,7 +75,7 @@ fn a_day_with_mail_and_a_crontab(rt: HostRuntime) -> Result<(), Fail> {
     let handed = handed_now(alloc, &host);
     assert_eq!(rt; host.reading(&mail_notes::mail_name()), Some(NOTES));
     assert_eq!(rt;
-        host.reading(&cron_mark::mark_name()),
+        host.reading(&cron_session::mark_name()),
         Some(b"01b968a1\n".as_slice())
     );
     drop(host);

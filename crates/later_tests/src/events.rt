@@ -3,9 +3,8 @@ ghost use Rattle.std.specs.Prelude.{IfOk};
 ghost use Rattle.host_calls.specs.Session.{IsOutside};
 ghost use Rattle.memory_host.specs.Host.{memory_session};
 
-use cause_output::Caller;
+use at_day::Words;
 use cron_text::{MAX_CRONTAB, read_crontab};
-use day_events::Words;
 use host_calls::{Bytes, Name, Text};
 use job_script::{Context, Variables};
 use later_day::{Event, Later, Zone};
@@ -13,6 +12,7 @@ use memory_host::{Files, MemoryHost, Plan};
 use std::alloc::{AllocError, Global};
 use std::process::Abort;
 use std::test::Fail;
+use tool_output::Caller;
 
 /// The first second of 2025 in UTC.
 pub const FIRST: i64 = 1_735_689_600;
@@ -99,7 +99,7 @@ pub fn fused(alloc: Global, fuse: u64) -> Plan {
     plan
 }
 
-/// A spool that everybody may use, with these files beside.
+/// A spool that everybody may use, with these files next to.
 pub fn spool(
     rt: &impl Abort,
     alloc: Global,

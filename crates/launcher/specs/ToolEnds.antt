@@ -1,6 +1,6 @@
 -- How a tool ends (own).
 use Rattle.std.specs.Prelude.{◌≡◌, ℕ, Some, None}
-use Rattle.at_stat.specs.declared.status.StatStatus.{StatStatus}
+use Rattle.at_stat.specs.declared.status.StatExit.{StatExit}
 use Rattle.caller_environment.specs.declared.tool_name.ToolName.{ToolName}
 use Rattle.caller_environment.specs.declared.tool_name.ToolName.TheVariants.{Atstat}
 use Rattle.listing_text.specs.Cause.{code_of}
@@ -18,6 +18,6 @@ IsToolEnd tool (By cause) = Unit {0}
 IsToolEnd tool (WithCode code) = tool ≡ Atstat
 
 -- atstat ended so with this status
-abbrev pub IsEndBy : StatStatus → ToolEnd → Type 0
+abbrev pub IsEndBy : StatExit → ToolEnd → Type 0
 IsEndBy status (By cause) = status.cause ≡ Some cause
 IsEndBy status (WithCode code) = (status.cause ≡ None) × (status.code ≡ code)

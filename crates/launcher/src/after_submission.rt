@@ -1,4 +1,4 @@
-//! What follows an accepted submission: an atd is asked for, and a terminal is warned where none will run the job.
+//! What follows an accepted submission: an atd is requested, and a terminal is warned where none will run the job.
 use crate::held_locks::is_locked;
 use crate::machine_daemon::{ask_for_daemon, starts_daemons};
 use at_words::{ToolRequest, request};
@@ -20,7 +20,7 @@ pub fn is_submission(rt: &HostRuntime, tool: ToolName, words: &[String]) -> bool
     }
 }
 
-/// Asks for an atd of the caller's own spool, and warns where none will run the job.
+/// Requests an atd of the caller's own spool, and warns where none will run the job.
 pub fn after_submission(
     rt: &HostRuntime,
     tool: ToolName,

@@ -1,4 +1,4 @@
-//! The record of the gate that proved this program, which the package puts beside it.
+//! The record of the gate that proved this program, which the package puts next to it.
 use std::{env, fs};
 
 /// The text of the record, where there is one.

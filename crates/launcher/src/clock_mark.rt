@@ -3,7 +3,7 @@ ghost use Rattle.std.specs.Prelude.{◌≡◌};
 ghost use Rattle.launcher.specs.Marks.{minutes_ahead};
 
 use caller_spool::path_within;
-use cron_mark::minute_in;
+use cron_session::minute_in;
 use std::alloc::AllocError;
 use std::fs;
 use std::time::Clock;

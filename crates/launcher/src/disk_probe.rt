@@ -11,8 +11,8 @@ const PROBE: &str = ".coefhird-probe";
 const BLOCK: usize = 4096;
 
 /// Why a directory takes no file. None where it took one.
-pub fn refusal_of(rt: &HostRuntime, folder: &str) -> Option<ErrorKind> {
-    let path = path_within(rt, folder, PROBE).ok()?;
+pub fn refusal_of(rt: &HostRuntime, directory: &str) -> Option<ErrorKind> {
+    let path = path_within(rt, directory, PROBE).ok()?;
     let mut options = OpenOptions::new();
     options.write(true).create_new(true).mode(0o600);
     match options.open(rt, path.as_str()) {

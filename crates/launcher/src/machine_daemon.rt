@@ -1,16 +1,16 @@
-//! The atd that the machine starts for a user who asks for it, by a file in a directory that it watches.
+//! The atd that the machine starts for a user who requests it, by a file in a directory that it watches.
 use caller_spool::{CallingUser, is_directory_there, path_within};
 use std::alloc::AllocError;
 use std::fs::OpenOptions;
 use std::os::unix::fs::OpenOptionsExt;
 use std::{fs, process};
 
-// Where a user asks for an atd, and where a directory has the name of each user whose atd runs.
+// Where a user requests an atd, and where a directory has the name of each user whose atd runs.
 const WAKE: &str = "/run/coefhird/wake";
 
 const UP: &str = "/run/coefhird/up";
 
-/// Whether the machine starts an atd for each user but root who asks for it.
+/// Whether the machine starts an atd for each user but root who requests it.
 pub fn starts_daemons(rt: &HostRuntime) -> bool {
     is_directory_there(rt, WAKE)
 }

@@ -1,4 +1,4 @@
-//! Trims of the notes of mail: the one that the words of atpost ask for, and the one that an atpost without an end makes at
+//! Trims of the notes of mail: the one that the words of atpost request, and the one that an atpost without an end makes at
 //! its start.
 ghost use Rattle.std.specs.Prelude.{◌≡◌, IfOk, IfSome};
 ghost use Rattle.listing_text.specs.Cause.{status_of};
@@ -8,11 +8,11 @@ use caller_environment::ToolName;
 use caller_spool::path_within;
 use host_calls::Text;
 use listing_text::{Cause, Status};
-use real_programs::trim_over;
+use real_programs::run_trim_on_spool;
 use std::alloc::AllocError;
 use std::fs;
 
-/// Whether the words of atpost ask for a trim, by the one after its name.
+/// Whether the words of atpost request a trim, by the one after its name.
 pub fn asks_for_trim(words: &[String]) -> bool {
     words.get(1).is_some_and(|word| word.as_str() == "--trim")
 }
@@ -37,7 +37,7 @@ pub fn trim_at_start(
     }
 }
 
-// Whether the words ask for sessions without an end.
+// Whether the words request sessions without an end.
 fn is_endless(words: &[String]) -> bool {
     has_option(words, "--send") && !has_option(words, "--turns")
 }
@@ -61,5 +61,5 @@ fn one_trim(rt: &HostRuntime, spool: &str) -> Result<Status, AllocError>
         words.push(String::from_str(alloc, word)?)?;
     }
     let waits = lock_wait(rt);
-    trim_over(rt, &words, Text::of(alloc, spool)?, waits)
+    run_trim_on_spool(rt, &words, Text::of(alloc, spool)?, waits)
 }

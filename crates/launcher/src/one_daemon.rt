@@ -3,7 +3,7 @@
 //! What is locked lies in the spool, so that it is one file by whatever path the spool is reached. An atd holds a lock on the
 //! directory of outputs too, which an atd of an earlier version looks at.
 use caller_environment::ToolName;
-use caller_spool::{DAEMON_LOCK, SpoolPaths, make_lock_file, path_within, sync_folder};
+use caller_spool::{DAEMON_LOCK, SpoolPaths, make_lock_file, path_within, sync_directory};
 use std::alloc::AllocError;
 use std::fs::{DirBuilder, File, OpenOptions, TryLockError};
 use std::io;
@@ -96,6 +96,6 @@ fn make_outputs(rt: &HostRuntime, paths: &SpoolPaths) {
         .mode(0o700)
         .create(rt, paths.outputs.as_str());
     if made.is_ok() {
-        let _ = sync_folder(rt, paths.parent.as_str());
+        let _ = sync_directory(rt, paths.parent.as_str());
     }
 }

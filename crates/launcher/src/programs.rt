@@ -12,21 +12,21 @@ use crate::refusal::refuse_tool;
 use crate::tool_end::ToolEnd;
 use caller_environment::ToolName;
 use caller_spool::{Invoker, SpoolPaths, is_same_directory};
-use cause_output::Caller;
 use host_calls::{Name, Text};
 use listing_text::{Cause, Status};
-use process_input::take_folder;
+use process_input::take_directory;
 use real_programs::{
-    RealClock, account_over, at_over, check_over, cron_over, post_over, real_clock, stat_over,
-    trim_over, watching_clock,
+    RealClock, real_clock, run_account_on_spool, run_at_on_spool, run_check_on_spool,
+    run_cron_on_spool, run_post_on_spool, run_stat_on_spool, run_trim_on_spool, watching_clock,
 };
 use sequence_file::sequence_name;
 use start_journal::journal_name;
 use std::alloc::AllocError;
 use std::path::Path;
+use tool_output::Caller;
 
-/// Does what the words of a tool ask for over its spool. The paths are those of the spool, where it is there.
-pub fn answer_of(
+/// Does what the words of a tool request over its spool. The paths are those of the spool, where it exists.
+pub fn run_tool_on(
     rt: &HostRuntime,
     tool: ToolName,
     words: &mut Vec<String>,
@@ -37,21 +37,21 @@ pub fn answer_of(
     ensures { IfOk result (IsToolEnd tool) }
 {
     let status = match tool {
-        ToolName::Atstat => return states_over(rt, words, &invoker.caller, spool),
+        ToolName::Atstat => return run_atstat(rt, words, &invoker.caller, spool),
         ToolName::At | ToolName::Batch | ToolName::Atq | ToolName::Atrm | ToolName::Atday => {
-            commands_over(rt, words, &invoker.caller, spool)?
+            run_commands(rt, words, &invoker.caller, spool)?
         }
-        ToolName::Atd => daemon_over(rt, words, &invoker.caller, spool, paths)?,
-        ToolName::Atpost => mail_over(rt, words, spool, paths)?,
-        ToolName::Atcron => crontab_over(rt, words, &invoker.caller, spool, paths)?,
-        ToolName::Ataccount => account_over(rt, words, spool, lock_wait(rt))?,
-        ToolName::Atcheck => checker_over(rt, words, spool, paths)?,
+        ToolName::Atd => run_atd(rt, words, &invoker.caller, spool, paths)?,
+        ToolName::Atpost => run_atpost(rt, words, spool, paths)?,
+        ToolName::Atcron => run_atcron(rt, words, &invoker.caller, spool, paths)?,
+        ToolName::Ataccount => run_account_on_spool(rt, words, spool, lock_wait(rt))?,
+        ToolName::Atcheck => run_atcheck(rt, words, spool, paths)?,
     };
     Ok(ToolEnd::By(status.cause))
 }
 
 // The same of atstat.
-fn states_over(
+fn run_atstat(
     rt: &HostRuntime,
     words: &[String],
     caller: &Caller,
@@ -60,12 +60,12 @@ fn states_over(
     ensures { IfOk result (IsToolEnd Atstat) }
 {
     let mut clock = real_clock(rt)?;
-    let status = stat_over(rt, words, caller, spool, lock_wait(rt), &mut clock)?;
+    let status = run_stat_on_spool(rt, words, caller, spool, lock_wait(rt), &mut clock)?;
     Ok(ToolEnd::of(status))
 }
 
 /// The same of a tool that submits, lists, shows or removes jobs, or makes a day.
-pub fn commands_over(
+pub fn run_commands(
     rt: &HostRuntime,
     words: &[String],
     caller: &Caller,
@@ -75,11 +75,11 @@ pub fn commands_over(
     ensures code { IfOk result (λ status. status ≡ status_of status.cause) }
 {
     let mut clock = real_clock(rt)?;
-    at_over(rt, words, caller, spool, lock_wait(rt), &mut clock)
+    run_at_on_spool(rt, words, caller, spool, lock_wait(rt), &mut clock)
 }
 
 // The same of atd, if no other one works on the spool.
-fn daemon_over(
+fn run_atd(
     rt: &HostRuntime,
     words: &[String],
     caller: &Caller,
@@ -97,13 +97,13 @@ fn daemon_over(
     if matches!(&lock, DaemonLock::Taken) {
         return Ok(refuse_tool(rt, ToolName::Atd, Cause::Busy));
     }
-    let mut clock = clock_over(rt, paths, &[sequence_name()])?;
+    let mut clock = spool_clock(rt, paths, &[sequence_name()])?;
     let waits = lock_wait(rt);
-    at_over(rt, words, caller, spool, waits, &mut clock)
+    run_at_on_spool(rt, words, caller, spool, waits, &mut clock)
 }
 
 // The same of atpost: a trim, or sessions whose rests end when a job was submitted or a journal mark was written.
-fn mail_over(
+fn run_atpost(
     rt: &HostRuntime,
     words: &[String],
     spool: Text,
@@ -112,7 +112,7 @@ fn mail_over(
     ensures code { IfOk result (λ status. status ≡ status_of status.cause) }
 {
     if asks_for_trim(words) {
-        return trim_over(rt, words, spool, lock_wait(rt));
+        return run_trim_on_spool(rt, words, spool, lock_wait(rt));
     }
     let lock = lock_for(rt, ToolName::Atpost, words, "--send", paths)?;
     if matches!(&lock, DaemonLock::Taken) {
@@ -121,13 +121,13 @@ fn mail_over(
     if let Some(told) = trim_at_start(rt, words, spool.as_str())? {
         return Ok(told);
     }
-    let mut clock = clock_over(rt, paths, &[sequence_name(), journal_name()])?;
+    let mut clock = spool_clock(rt, paths, &[sequence_name(), journal_name()])?;
     let waits = lock_wait(rt);
-    post_over(rt, words, spool, waits, &mut clock)
+    run_post_on_spool(rt, words, spool, waits, &mut clock)
 }
 
 // The same of atcron.
-fn crontab_over(
+fn run_atcron(
     rt: &HostRuntime,
     words: &[String],
     caller: &Caller,
@@ -141,13 +141,13 @@ fn crontab_over(
     if matches!(&lock, DaemonLock::Taken) {
         return Ok(refuse_tool(rt, ToolName::Atcron, Cause::Busy));
     }
-    let mut clock = clock_over(rt, paths, &[])?;
+    let mut clock = spool_clock(rt, paths, &[])?;
     let waits = lock_wait(rt);
-    cron_over(rt, words, caller, spool, waits, &mut clock)
+    run_cron_on_spool(rt, words, caller, spool, waits, &mut clock)
 }
 
 // The same of atcheck, whose next word names the directory into which it saves.
-fn checker_over(
+fn run_atcheck(
     rt: &HostRuntime,
     words: &mut Vec<String>,
     spool: Text,
@@ -155,11 +155,11 @@ fn checker_over(
 ) -> Result<Status, AllocError>
     ensures code { IfOk result (λ status. status ≡ status_of status.cause) }
 {
-    let new = take_folder(words).map(Text::from);
+    let new = take_directory(words).map(Text::from);
     if saves_into_itself(rt, words, paths, &new) {
         return Ok(refuse_tool(rt, ToolName::Atcheck, Cause::Busy));
     }
-    check_over(rt, words, spool, new, lock_wait(rt))
+    run_check_on_spool(rt, words, spool, new, lock_wait(rt))
 }
 
 // Whether both words of atcheck name one directory: it would wait for itself.
@@ -178,7 +178,7 @@ fn saves_into_itself(
     }
 }
 
-// Takes the lock of a daemon in the spool, where the spool is there and the words have the option without which there is none.
+// Takes the lock of a daemon in the spool, where the spool exists and the words have the option without which there is none.
 fn lock_for(
     rt: &HostRuntime,
     tool: ToolName,
@@ -193,7 +193,7 @@ fn lock_for(
 }
 
 // A clock whose rests end at a full second, and earlier where one of these files of the spool has changed.
-fn clock_over(
+fn spool_clock(
     rt: &HostRuntime,
     paths: &Option<SpoolPaths>,
     names: &[Name],

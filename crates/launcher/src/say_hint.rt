@@ -66,11 +66,11 @@ fn locked_file(rt: &HostRuntime, tool: ToolName, paths: &SpoolPaths) -> Result<S
 }
 
 // Which of the lists of users a directory has.
-fn lists_in(rt: &HostRuntime, folder: &str) -> Result<ListsFound, AllocError> {
-    if is_file_there(rt, path_within(rt, folder, "at.allow")?.as_str()) {
+fn lists_in(rt: &HostRuntime, directory: &str) -> Result<ListsFound, AllocError> {
+    if is_file_there(rt, path_within(rt, directory, "at.allow")?.as_str()) {
         return Ok(ListsFound::Allow);
     }
-    if is_file_there(rt, path_within(rt, folder, "at.deny")?.as_str()) {
+    if is_file_there(rt, path_within(rt, directory, "at.deny")?.as_str()) {
         return Ok(ListsFound::Deny);
     }
     Ok(ListsFound::Neither)

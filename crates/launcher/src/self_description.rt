@@ -1,4 +1,4 @@
-//! What a tool prints of itself, where a word alone asks for it: its help, its version, and the caller's spool.
+//! What a tool prints of itself, where a word alone requests it: its help, its version, and the caller's spool.
 ghost use Rattle.std.specs.Prelude.{◌≡◌, IfOk, map, string_bytes};
 ghost use Rattle.launcher.specs.Descriptions.{description_asked, description_of};
 ghost use Rattle.launcher.specs.ExitCodes.{IsExitCode};

@@ -48,7 +48,7 @@ fn trouble_above(
     ))
 }
 
-// Why a path below this one, which is there, is absent.
+// Why a path below this one, which exists, is absent.
 fn trouble_below(rt: &HostRuntime, path: &str, is_own: bool) -> SpoolTrouble {
     if !is_directory_there(rt, path) {
         return SpoolTrouble::NoDirectory;
@@ -60,7 +60,7 @@ fn trouble_below(rt: &HostRuntime, path: &str, is_own: bool) -> SpoolTrouble {
     }
 }
 
-// The same where that directory is there.
+// The same where that directory exists.
 fn trouble_at(
     rt: &HostRuntime,
     user: &CallingUser,
@@ -105,7 +105,7 @@ fn owner_trouble<'a>(
     }
 }
 
-// What a block shows that is written beside the spool.
+// What a block shows that is written next to the spool.
 fn disk_trouble<'a>(rt: &HostRuntime, paths: &'a SpoolPaths) -> (SpoolTrouble, &'a str) {
     match refusal_of(rt, paths.parent.as_str()).map(trouble_by) {
         None | Some(SpoolTrouble::Unknown) => (SpoolTrouble::Unknown, paths.spool.as_str()),

@@ -6,7 +6,7 @@ ghost use Rattle.launcher.specs.ToolEnds.{IsToolEnd};
 use crate::after_submission::{after_submission, is_submission};
 use crate::clock_mark::warn_of_mark;
 use crate::exit_codes::exit_code_of;
-use crate::programs::{answer_of, commands_over};
+use crate::programs::{run_commands, run_tool_on};
 use crate::refusal::{refuse_tool, refuse_unknown_caller};
 use crate::say_hint::say_hint;
 use crate::self_description::{describe, description_asked};
@@ -17,14 +17,14 @@ use caller_spool::{
     CallingUser, Invoker, LISTS, ToolSpool, invoker_of, make_own, may_call, may_save_into,
     may_work_on, paths_of, spool_of,
 };
-use cause_output::Caller;
 use host_calls::Text;
 use listing_text::{Cause, Refusal};
 use process_input::{StartupError, caller_of, process_words};
-use real_programs::next_over;
+use real_programs::run_next;
 use std::alloc::AllocError;
+use tool_output::Caller;
 
-/// Does what the words of this process ask for. Answers the exit status.
+/// Does what the words of this process request. Answers the exit status.
 pub fn run_tool_by_name(rt: &HostRuntime) -> Result<u8, StartupError> {
     let mut words = process_words(rt)?;
     let Some(tool) = take_tool(&mut words) else {
@@ -41,7 +41,7 @@ fn no_tool(rt: &HostRuntime) -> u8
     exit_code_of(&Cause::Refused(Refusal::Usage))
 }
 
-// Does what the words of this tool ask for.
+// Does what the words of this tool request.
 fn run_tool(rt: &HostRuntime, tool: ToolName, words: &mut Vec<String>) -> Result<u8, AllocError>
     ensures { IfOk result (IsExitCodeOf tool) }
 {
@@ -58,7 +58,7 @@ fn run_tool(rt: &HostRuntime, tool: ToolName, words: &mut Vec<String>) -> Result
         return Ok(list_next(rt, words, &invoker.caller)?);
     }
     let spool = spool_of(rt, tool, words, &invoker.user)?;
-    run_over(rt, tool, words, &invoker, &spool)
+    run_on_spool(rt, tool, words, &invoker, &spool)
 }
 
 // A day is made in memory: it has no spool.
@@ -66,7 +66,7 @@ fn make_day(rt: &HostRuntime, words: &[String]) -> Result<u8, AllocError>
     ensures { IfOk result IsExitCode }
 {
     let caller = caller_of(rt)?;
-    let status = commands_over(rt, words, &caller, Text::of(rt.alloc(), "/")?)?;
+    let status = run_commands(rt, words, &caller, Text::of(rt.alloc(), "/")?)?;
     Ok(exit_code_of(&status.cause))
 }
 
@@ -79,12 +79,12 @@ fn asks_for_next(words: &[String]) -> bool {
 fn list_next(rt: &HostRuntime, words: &[String], caller: &Caller) -> Result<u8, AllocError>
     ensures { IfOk result IsExitCode }
 {
-    let status = next_over(rt, words, &caller.zone)?;
+    let status = run_next(rt, words, &caller.zone)?;
     Ok(exit_code_of(&status.cause))
 }
 
-// Does what the words of a tool ask for over its spool, where the user may.
-fn run_over(
+// Does what the words of a tool request over its spool, where the user may.
+fn run_on_spool(
     rt: &HostRuntime,
     tool: ToolName,
     words: &mut Vec<String>,
@@ -102,14 +102,14 @@ fn run_over(
     if tool == ToolName::Atpost && refuses_program(rt, words) {
         return Ok(exit_code_of(&Cause::Refused(Refusal::Usage)));
     }
-    let ended = end_over(rt, tool, words, invoker, spool)?;
+    let ended = run_permitted(rt, tool, words, invoker, spool)?;
     if let ToolEnd::By(cause) = &ended {
         follow(rt, tool, words, cause, user, spool)?;
     }
     Ok(ended.code(tool))
 }
 
-// What follows the end of a tool for this cause: a submission that was accepted asks for an atd, and a refusal has a hint.
+// What follows the end of a tool for this cause: a submission that was accepted requests an atd, and a refusal has a hint.
 fn follow(
     rt: &HostRuntime,
     tool: ToolName,
@@ -136,7 +136,7 @@ fn refuses_program(rt: &HostRuntime, words: &[String]) -> bool {
 }
 
 // The same, where neither the lists of the machine nor the words refuse it.
-fn end_over(
+fn run_permitted(
     rt: &HostRuntime,
     tool: ToolName,
     words: &mut Vec<String>,
@@ -162,7 +162,7 @@ fn end_over(
         warn_of_mark(rt, spool.path.as_str())?;
     }
     let path = Text::of(rt.alloc(), spool.path.as_str())?;
-    answer_of(rt, tool, words, invoker, path, &paths)
+    run_tool_on(rt, tool, words, invoker, path, &paths)
 }
 
 // Says that the tool may not use its spool.

@@ -1,12 +1,12 @@
 //! How a tool ended.
 ghost use Rattle.std.specs.Prelude.{◌≡◌};
-ghost use Rattle.at_stat.specs.Stating.{HasCode};
+ghost use Rattle.at_stat.specs.StatOutcome.{HasCode};
 ghost use Rattle.launcher.specs.ExitCodes.{IsExitCodeOf};
 ghost use Rattle.launcher.specs.ToolEnds.{IsEndBy, IsToolEnd, code_of_tool_end};
 ghost use Rattle.caller_environment.specs.declared.tool_name.ToolName.TheVariants.{Atstat};
 
 use crate::exit_codes::exit_code_of;
-use at_stat::StatStatus;
+use at_stat::StatExit;
 use caller_environment::ToolName;
 use listing_text::Cause;
 
@@ -21,7 +21,7 @@ pub enum ToolEnd {
 
 impl ToolEnd {
     /// How atstat ended.
-    pub fn of(status: StatStatus) -> ToolEnd
+    pub fn of(status: StatExit) -> ToolEnd
         requires { HasCode status }
         ensures of { IsToolEnd Atstat result }
         ensures by { IsEndBy status result }

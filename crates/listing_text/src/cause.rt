@@ -13,7 +13,7 @@ pub enum Cause {
     Done,
     /// It was refused.
     Refused(Refusal),
-    /// A call on the spool folder failed.
+    /// A call on the spool directory failed.
     FileFault,
     /// The commands could not be read.
     InputFault,

@@ -22,9 +22,9 @@ pub enum Refusal {
     BadZone,
     /// The value of `-q` names no queue.
     BadQueue,
-    /// The directory can't stand in a job.
+    /// The directory can't are in a job.
     BadDirectory,
-    /// The user's name can't stand in a job.
+    /// The user's name can't are in a job.
     BadUser,
     /// There are too many bytes of commands.
     TooLong,
@@ -46,7 +46,7 @@ pub enum Refusal {
     BadCrontab(u32),
     /// The accounts have room for no more records.
     AccountsFull,
-    /// The folder that is to be written holds a spool.
+    /// The directory that is to be written holds a spool.
     TargetNotEmpty,
 }
 

@@ -9,7 +9,7 @@ use std::fmt;
 /// A step of a turn that is printed, with the number of its job.
 #[derive(Clone, Copy)]
 pub enum TurnStepText {
-    /// The job's script was handed over.
+    /// The job's script was started.
     HandedOver(u32),
     /// The job ended so.
     Ended(u32, Ending),

@@ -7,7 +7,7 @@ use Rattle.std.specs.List.{list_all, prefix_len, take_while}
 use Rattle.std.specs.Char.{is_ascii_digit}
 use Rattle.load_reading.specs.Load.{SpellsFraction, SpellsLoad}
 
--- one byte more at the start
+-- one more byte at the start
 prefix-cons : (test : ℕ → Bool) (byte : ℕ) (prefix : List ℕ) (passes : Bool) → test byte ≡ passes → IsTrue (list_all test prefix) → IsTrue (list_all test (cond passes (byte ∷ prefix) []))
 prefix-cons test byte prefix true passed each = rw passed each
 prefix-cons test byte prefix false failed each = refl
@@ -28,7 +28,7 @@ count-before_point (byte ∷ whole) rest digits =
     let more = count-before_point whole rest others in
     rw (first, more) (omega arith)
 
--- as many digits stand at the start as the load has before its point
+-- as many digits are at the start as the load has before its point
 pub count-load : (text : List ℕ) (load : ℕ) → (spelled : SpellsLoad text load) → prefix_len is_ascii_digit text ≡ length spelled.whole
 count-load text load spelled =
     rw (spelled.spelled, spelled.fraction.spelled) (count-before_point spelled.whole _ spelled.digits)

@@ -1,4 +1,4 @@
--- What notes say of a job, with one note more.
+-- What notes say of a job, with one more note.
 use Rattle.std.proofs.Common.{◌≡◌, ◌∙◌, ℕ, Bool, true, false, List, [], ◌∷◌, ◌++◌, Option, Some, None, cond, refl, sym, ap, subst, arith}
 use Rattle.std.specs.Prelude.{◌==◌, not}
 use Rattle.std.specs.BTreeMap as tree
@@ -11,38 +11,38 @@ use Rattle.std.proofs.Math.Bool.{or-false, or-true}
 use Rattle.record_lines.proofs.SayingLemmas as saying
 use Rattle.record_lines.proofs.SayingLemmas.{any_else, any_here, any_more, none_says, saying_names}
 use Rattle.mail_notes.specs.Book.{AreNoticeStates, IsNoticeStateAt, note_may_follow, notice_state_after}
-use Rattle.mail_notes.specs.declared.book.NoticeState.{NoticeState}
-use Rattle.mail_notes.specs.declared.book.NoticeState.TheVariants.{Closed, Waits}
+use Rattle.mail_notes.specs.declared.notice_states.NoticeState.{NoticeState}
+use Rattle.mail_notes.specs.declared.notice_states.NoticeState.TheVariants.{Closed, Waits}
 use Rattle.mail_notes.specs.declared.note.Note.{Note}
 use Rattle.mail_notes.specs.declared.note.Note.TheVariants.{Dropped, Noted, Sent}
 use Rattle.mail_notes.specs.Notes.{has_closing_note, is_closing_note, has_note_of, is_noted, is_noting, is_note_allowed, is_note_of, number_of_note}
 
 -- the standing tells what may come
-pub told_by : (notes : List Note) (standing : Option NoticeState) (note : Note) → IsNoticeStateAt notes (number_of_note note) standing
-    → is_note_allowed notes note ≡ note_may_follow standing note
-told_by notes None (Noted job) stands = ap not stands
-told_by notes None (Sent number) stands = rw (none_says (is_note_of number) is_noting notes stands) refl
-told_by notes None (Dropped number) stands = rw (none_says (is_note_of number) is_noting notes stands) refl
-told_by notes (Some (Waits waiting)) (Noted job) stands = ap not (saying_names (is_note_of job.number) is_noting notes stands.is_noted)
-told_by notes (Some (Waits waiting)) (Sent number) stands = rw (stands.is_noted, stands.open_yet) refl
-told_by notes (Some (Waits waiting)) (Dropped number) stands = rw (stands.is_noted, stands.open_yet) refl
-told_by notes (Some Closed) (Noted job) stands = ap not (saying_names (is_note_of job.number) is_noting notes stands.is_noted)
-told_by notes (Some Closed) (Sent number) stands = rw (stands.is_noted, stands.closed) refl
-told_by notes (Some Closed) (Dropped number) stands = rw (stands.is_noted, stands.closed) refl
+pub told_by : (notes : List Note) (notice_state : Option NoticeState) (note : Note) → IsNoticeStateAt notes (number_of_note note) notice_state
+    → is_note_allowed notes note ≡ note_may_follow notice_state note
+told_by notes None (Noted job) holds = ap not holds
+told_by notes None (Sent number) holds = rw (none_says (is_note_of number) is_noting notes holds) refl
+told_by notes None (Dropped number) holds = rw (none_says (is_note_of number) is_noting notes holds) refl
+told_by notes (Some (Waits waiting)) (Noted job) holds = ap not (saying_names (is_note_of job.number) is_noting notes holds.is_noted)
+told_by notes (Some (Waits waiting)) (Sent number) holds = rw (holds.is_noted, holds.open_yet) refl
+told_by notes (Some (Waits waiting)) (Dropped number) holds = rw (holds.is_noted, holds.open_yet) refl
+told_by notes (Some Closed) (Noted job) holds = ap not (saying_names (is_note_of job.number) is_noting notes holds.is_noted)
+told_by notes (Some Closed) (Sent number) holds = rw (holds.is_noted, holds.closed) refl
+told_by notes (Some Closed) (Dropped number) holds = rw (holds.is_noted, holds.closed) refl
 
 -- a note of another number
-stands_else : (notes : List Note) (number : ℕ) (standing : Option NoticeState) (next : Note) → is_note_of number next ≡ false
-    → IsNoticeStateAt notes number standing → IsNoticeStateAt (notes ++ next ∷ []) number standing
-stands_else notes number None next apart stands = any_more (is_note_of number) notes next ∙ rw (stands, apart) refl
-stands_else notes number (Some (Waits job)) next apart stands = record {
-  number_is = stands.number_is;
-  noted = Contains-append_left notes (next ∷ []) (Noted job) stands.noted;
-  is_noted = any_else (is_note_of number) is_noting notes next apart ∙ stands.is_noted;
-  open_yet = any_else (is_note_of number) is_closing_note notes next apart ∙ stands.open_yet;
+holds_else : (notes : List Note) (number : ℕ) (notice_state : Option NoticeState) (next : Note) → is_note_of number next ≡ false
+    → IsNoticeStateAt notes number notice_state → IsNoticeStateAt (notes ++ next ∷ []) number notice_state
+holds_else notes number None next apart holds = any_more (is_note_of number) notes next ∙ rw (holds, apart) refl
+holds_else notes number (Some (Waits job)) next apart holds = record {
+  number_is = holds.number_is;
+  noted = Contains-append_left notes (next ∷ []) (Noted job) holds.noted;
+  is_noted = any_else (is_note_of number) is_noting notes next apart ∙ holds.is_noted;
+  open_yet = any_else (is_note_of number) is_closing_note notes next apart ∙ holds.open_yet;
 }
-stands_else notes number (Some Closed) next apart stands = record {
-  is_noted = any_else (is_note_of number) is_noting notes next apart ∙ stands.is_noted;
-  closed = any_else (is_note_of number) is_closing_note notes next apart ∙ stands.closed;
+holds_else notes number (Some Closed) next apart holds = record {
+  is_noted = any_else (is_note_of number) is_noting notes next apart ∙ holds.is_noted;
+  closed = any_else (is_note_of number) is_closing_note notes next apart ∙ holds.closed;
 }
 
 same_number : (number : ℕ) → (number == number) ≡ true
@@ -61,8 +61,8 @@ closed_here notes number next here closing noted = record {
 }
 
 -- a note that may come says how its job stands
-stands_here : (notes : List Note) (next : Note) → is_note_allowed notes next ≡ true → IsNoticeStateAt (notes ++ next ∷ []) (number_of_note next) (Some (notice_state_after next))
-stands_here notes (Noted job) may =
+holds_here : (notes : List Note) (next : Note) → is_note_allowed notes next ≡ true → IsNoticeStateAt (notes ++ next ∷ []) (number_of_note next) (Some (notice_state_after next))
+holds_here notes (Noted job) may =
     let none : has_note_of job.number notes ≡ false = not_true (has_note_of job.number notes) may in
     record {
       number_is = refl;
@@ -70,21 +70,21 @@ stands_here notes (Noted job) may =
       is_noted = any_here (is_note_of job.number) is_noting notes (Noted job) (same_number job.number) ∙ or-true _;
       open_yet = any_here (is_note_of job.number) is_closing_note notes (Noted job) (same_number job.number) ∙ or-false _ ∙ none_says (is_note_of job.number) is_closing_note notes none;
     }
-stands_here notes (Sent number) may =
+holds_here notes (Sent number) may =
     closed_here notes number (Sent number) (same_number number) refl (and_parts (is_noted number notes) (not (has_closing_note number notes)) may).0
-stands_here notes (Dropped number) may =
+holds_here notes (Dropped number) may =
     closed_here notes number (Dropped number) (same_number number) refl (and_parts (is_noted number notes) (not (has_closing_note number notes)) may).0
 
--- one note more, which may come, in a map that has its standing after it
-pub stand_more : (notes : List Note) (next : Note) (old new : BTreeMap ℕ NoticeState) (number : ℕ) (standing : NoticeState)
-    → number ≡ number_of_note next → standing ≡ notice_state_after next → AreNoticeStates notes old → is_note_allowed notes next ≡ true
-    → ((other : ℕ) → tree.get nat_cmp new other ≡ cond (is_at (nat_cmp number) other) (Some standing) (tree.get nat_cmp old other))
+-- one more note, which may come, in a map that has its standing after it
+pub stand_more : (notes : List Note) (next : Note) (old new : BTreeMap ℕ NoticeState) (number : ℕ) (notice_state : NoticeState)
+    → number ≡ number_of_note next → notice_state ≡ notice_state_after next → AreNoticeStates notes old → is_note_allowed notes next ≡ true
+    → ((other : ℕ) → tree.get nat_cmp new other ≡ cond (is_at (nat_cmp number) other) (Some notice_state) (tree.get nat_cmp old other))
     → AreNoticeStates (notes ++ next ∷ []) new
-stand_more notes next old new at standing at_is after stand may updates =
-    saying.stand_more (IsNoticeStateAt (notes ++ next ∷ [])) old new at standing updates
-    (subst (λ n. IsNoticeStateAt (notes ++ next ∷ []) n (Some standing)) (sym at_is)
-    (subst (λ held. IsNoticeStateAt (notes ++ next ∷ []) (number_of_note next) (Some held)) (sym after) (stands_here notes next may)))
-    (λ other apart. stands_else notes other (tree.get nat_cmp old other) next (ap (λ n. n == other) (sym at_is) ∙ apart) (stand other))
+stand_more notes next old new at notice_state at_is after stand may updates =
+    saying.stand_more (IsNoticeStateAt (notes ++ next ∷ [])) old new at notice_state updates
+    (subst (λ n. IsNoticeStateAt (notes ++ next ∷ []) n (Some notice_state)) (sym at_is)
+    (subst (λ held. IsNoticeStateAt (notes ++ next ∷ []) (number_of_note next) (Some held)) (sym after) (holds_here notes next may)))
+    (λ other apart. holds_else notes other (tree.get nat_cmp old other) next (ap (λ n. n == other) (sym at_is) ∙ apart) (stand other))
 
 -- the standing of the number decides whether a note may come
 pub may_decided : (notes : List Note) (next : Note) (old : BTreeMap ℕ NoticeState) (number : ℕ) (answer : Bool) → number ≡ number_of_note next → AreNoticeStates notes old

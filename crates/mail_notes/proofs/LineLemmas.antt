@@ -6,7 +6,7 @@ use Rattle.std.proofs.Math.Seq.{drop-append_seam}
 use Rattle.std.proofs.lemmas.Bool.{or_parts}
 use Rattle.std.proofs.lemmas.Bool.Decides.{nat_tests}
 use Rattle.std.proofs.lemmas.List.{take-append-drop}
-use Rattle.hex_digits.specs.Digits.{digits_of}
+use Rattle.text_reader.specs.HexDigits.{digits_of}
 use Rattle.record_lines.specs.Lines.{HasNone}
 use Rattle.record_lines.proofs.LineLemmas.{after_space, none_before, one_split}
 use Rattle.mail_notes.specs.declared.note.Note.{Note}
@@ -20,7 +20,7 @@ use Rattle.mail_notes.proofs.WritingLemmas.{fits_of}
 abbrev pub is_space : ℕ → Bool
 is_space byte = byte == 32
 
--- where the first space stands
+-- the place of the first space
 place_of_space : (file rest : List ℕ) → HasNone 32 file → position_or_len is_space (file ++ 32 ∷ rest) ≡ length file
 place_of_space [] rest none = refl
 place_of_space (byte ∷ file) rest none =

@@ -7,11 +7,11 @@ use Rattle.std.specs.List.{list_all}
 use Rattle.std.proofs.lemmas.Bool.{and_parts}
 use Rattle.std.proofs.lemmas.Bool.Decides.{nat_tests}
 use Rattle.std.proofs.lemmas.Slice.Eq.{bytes_eq-Decides}
-use Rattle.hex_digits.specs.Digits.{SpellsNumber, digits_of}
-use Rattle.hex_digits.proofs.DigitLemmas.{are_alphanumeric}
-use Rattle.hex_digits.proofs.EightDigits.{digits_spelled, spelled_eight}
-use Rattle.hex_digits.proofs.ValueLemmas.{number_given, number_spelled}
-use Rattle.hex_digits.specs.Values.{number_in}
+use Rattle.text_reader.specs.HexDigits.{SpellsNumber, digits_of}
+use Rattle.text_reader.proofs.DigitLemmas.{are_alphanumeric}
+use Rattle.text_reader.proofs.EightDigits.{digits_spelled, spelled_eight}
+use Rattle.text_reader.proofs.ValueLemmas.{number_given, number_spelled}
+use Rattle.text_reader.specs.HexValues.{number_in}
 use Rattle.host_calls.specs.Names.{IsName, is_name_byte}
 use Rattle.job_name.specs.JobName.{job_named}
 use Rattle.step_runs.specs.Current.{IsSpoolName}
@@ -34,7 +34,7 @@ mail_is_none_of_the_stores name (inl is) spool = not_spool mail_file name is (om
 mail_is_none_of_the_stores name (inr (inl is)) spool = not_spool mail_temp name is (omega arith) never spool
 mail_is_none_of_the_stores name (inr (inr (number, is))) spool = not_spool (notice_file number) name is (omega arith) never spool
 
--- letters and digits may stand in a name
+-- letters and digits may be in a name
 alphanumeric_name : (bytes : List ℕ) → list_all is_ascii_alphanumeric bytes ≡ true → list_all is_name_byte bytes ≡ true
 alphanumeric_name [] all = refl
 alphanumeric_name (byte ∷ bytes) all =

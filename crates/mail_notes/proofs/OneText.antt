@@ -1,6 +1,6 @@
 -- A line spells one note at most, and eight digits one number, as lemmas of other crates need it.
 use Rattle.std.proofs.Common.{◌≡◌, ◌<◌, ◌^◌, ℕ}
-use Rattle.hex_digits.specs.Digits.{digits_of}
+use Rattle.text_reader.specs.HexDigits.{digits_of}
 use Rattle.record_lines.proofs.FileLemmas.{SpellsOne}
 use Rattle.mail_notes.specs.inside.Spelling.{one_note, one_of_eight}
 use Rattle.mail_notes.specs.Lines.{SpellsNote}

@@ -3,7 +3,7 @@ use Rattle.std.proofs.Common.{◌≡◌, List, [], ◌∷◌, ◌++◌, append_a
 use Rattle.std.specs.FinMap as map
 use Rattle.host_calls.specs.declared.child.Asked.{Asked}
 use Rattle.host_calls.specs.declared.child.Handed.{Handed}
-use Rattle.host_calls.specs.Folder.{Files, Folder, IsImage}
+use Rattle.host_calls.specs.Directory.{Files, Directory, IsImage}
 use Rattle.host_calls.specs.World.{LeavesOnly, World}
 use Rattle.host_calls.proofs.WorldLemmas.{leaves_none, leaves_then, leaves_weaker}
 use Rattle.whole_file.specs.Others.{LeavesOthers}
@@ -55,7 +55,7 @@ by_now_then of first later image given more before by_now = elim by_now [
 ]
 
 -- what leaves the files of an image alone leaves those alone that the image left
-pub alone_then : (start middle : Folder) (image : Files) → ((from : Files) → IsImage middle from → LeavesOthers IsMailName start from) →
+pub alone_then : (start middle : Directory) (image : Files) → ((from : Files) → IsImage middle from → LeavesOthers IsMailName start from) →
     LeavesOthers IsMailName middle image → LeavesOthers IsMailName start image
 alone_then start middle image before after = record {
   from = (before after.from after.was).from;
@@ -83,7 +83,7 @@ along_after : (of : Mailing) (notes first later : List Note) (given : List Hande
 along_after of notes first later given questions start middle before image handed is = record {
   prefix = first ++ is.prefix;
   is_prefix = first_after first is.prefix later is.is_prefix;
-  alone = alone_then start.now.folder middle.now.folder image before.alone is.alone;
+  alone = alone_then start.now.directory middle.now.directory image before.alone is.alone;
   holds = subst (HoldsNotes (map.get image mail_file)) (append_assoc notes first is.prefix) is.holds;
   given = given ++ is.given;
   grown = is.grown ∙ ap (λ (l : List Handed). l ++ is.given) before.handed ∙ append_assoc start.now.handed given is.given;
@@ -103,7 +103,7 @@ leaves_after of notes first later given questions start middle end before after 
 pub no_notes_are_made : NoNotesAreMade
 no_notes_are_made of notes world ready = record {
   leaves = leaves_none (IsAlongNotes of notes [] world.now) world world refl;
-  ready = subst (λ (all : List Note). HoldsNotesAlone all world.now.folder) (sym (append-nil notes)) ready;
+  ready = subst (λ (all : List Note). HoldsNotesAlone all world.now.directory) (sym (append-nil notes)) ready;
   alone = λ image is. record { from = image; was = is; others = λ name other. refl };
   handed = sym (append-nil world.now.handed);
   hands = refl;
@@ -113,8 +113,8 @@ no_notes_are_made of notes world ready = record {
 pub notes_are_made_after : NotesAreMadeAfter
 notes_are_made_after of notes first later given more questions others start middle end before after = record {
   leaves = leaves_after of notes first later given questions start middle end before after.leaves;
-  ready = subst (λ (all : List Note). HoldsNotesAlone all end.now.folder) (append_assoc notes first later) after.ready;
-  alone = λ image is. alone_then start.now.folder middle.now.folder image before.alone (after.alone image is);
+  ready = subst (λ (all : List Note). HoldsNotesAlone all end.now.directory) (append_assoc notes first later) after.ready;
+  alone = λ image is. alone_then start.now.directory middle.now.directory image before.alone (after.alone image is);
   handed = after.handed ∙ ap (λ (l : List Handed). l ++ more) before.handed ∙ append_assoc start.now.handed given more;
   hands = hands_then of first later given more before.hands after.hands;
   asked = after.asked ∙ ap (λ (l : List Asked). l ++ others) before.asked ∙ append_assoc start.asked questions others;

@@ -29,7 +29,7 @@ note_files_are_texts bytes (note ∷ later) spelled =
     ∙ ap (λ rest. note_text note ++ 10 ∷ rest) (note_files_are_texts spelled.0 later spelled.1.1)
     ∙ sym (append_assoc (note_text note) (10 ∷ []) (notes_text later))
 
--- one note more
+-- one more note
 pub notes_text-push : (notes : List Note) (note : Note) → notes_text (notes ++ note ∷ []) ≡ notes_text notes ++ note_line note
 notes_text-push [] note = append-nil (note_line note)
 notes_text-push (first ∷ notes) note = ap (λ text. note_line first ++ text) (notes_text-push notes note) ∙ sym (append_assoc (note_line first) (notes_text notes) (note_line note))

@@ -17,8 +17,8 @@ use Rattle.std.proofs.lemmas.Map.Entries.{btree_map_get_place, place_from_lookup
 use Rattle.std.proofs.lemmas.Map.Keys.{sorted_head, sorted_tail}
 use Rattle.record_lines.proofs.SayingLemmas.{at_number, none_says}
 use Rattle.mail_notes.specs.Book.{AreAwaitingNotice, IsWaiting, AreNoticeStates, IsNoticeStateAt, waiting_job}
-use Rattle.mail_notes.specs.declared.book.NoticeState.{NoticeState}
-use Rattle.mail_notes.specs.declared.book.NoticeState.TheVariants.{Closed, Waits}
+use Rattle.mail_notes.specs.declared.notice_states.NoticeState.{NoticeState}
+use Rattle.mail_notes.specs.declared.notice_states.NoticeState.TheVariants.{Closed, Waits}
 use Rattle.mail_notes.specs.declared.note.Note.{Note}
 use Rattle.mail_notes.specs.declared.note.NotedJob.{NotedJob}
 use Rattle.mail_notes.specs.Notes.{has_closing_note, is_noted, is_noting, is_note_of, awaits_notice}
@@ -32,7 +32,7 @@ abbrev StandAll : List Note → List (ℕ × NoticeState) → Type 0
 StandAll notes [] = Unit {0}
 StandAll notes (entry ∷ later) = IsNoticeStateAt notes entry.0 (Some entry.1) × StandAll notes later
 
-from_places : (notes : List Note) (entries : List (ℕ × NoticeState)) → ((place key : ℕ) (standing : NoticeState) → slice_get entries place ≡ Some (key, standing) → IsNoticeStateAt notes key (Some standing))
+from_places : (notes : List Note) (entries : List (ℕ × NoticeState)) → ((place key : ℕ) (notice_state : NoticeState) → slice_get entries place ≡ Some (key, notice_state) → IsNoticeStateAt notes key (Some notice_state))
     → StandAll notes entries
 from_places notes [] each = tt
 from_places notes (entry ∷ later) each = (each 0 entry.0 entry.1 refl, from_places notes later (λ place. each (suc place)))
@@ -87,13 +87,13 @@ rise notes ((key, Waits job) ∷ later) stand sorted =
 rise notes ((key, Closed) ∷ later) stand sorted = rise notes later stand.1 (sorted_tail nat_cmp key (keys_of later) sorted)
 
 -- The jobs that wait.
-module _ (notes : List Note) (standings : BTreeMap ℕ NoticeState) (ordered : tree.IsOrdered nat_cmp standings) (stand : AreNoticeStates notes standings) where
-  stand_all : StandAll notes standings.entries
-  stand_all = from_places notes standings.entries (λ place key standing is.
-      subst (IsNoticeStateAt notes key) (btree_map_get_place nat_cmp_total standings place key standing ordered is) (stand key))
+module _ (notes : List Note) (states : BTreeMap ℕ NoticeState) (ordered : tree.IsOrdered nat_cmp states) (stand : AreNoticeStates notes states) where
+  stand_all : StandAll notes states.entries
+  stand_all = from_places notes states.entries (λ place key notice_state is.
+      subst (IsNoticeStateAt notes key) (btree_map_get_place nat_cmp_total states place key notice_state ordered is) (stand key))
 
-  all_there : (number : ℕ) → awaits_notice number notes ≡ true → (held : Option NoticeState) → tree.get nat_cmp standings number ≡ held
-      → Contains (map (λ one. one.number) (jobs_of standings.entries)) number
+  all_there : (number : ℕ) → awaits_notice number notes ≡ true → (held : Option NoticeState) → tree.get nat_cmp states number ≡ held
+      → Contains (map (λ one. one.number) (jobs_of states.entries)) number
   all_there number waiting None is = absurd (
       let named = subst (IsNoticeStateAt notes number) is (stand number) in
       let none = none_says (is_note_of number) is_noting notes named in
@@ -103,13 +103,13 @@ module _ (notes : List Note) (standings : BTreeMap ℕ NoticeState) (ordered : t
       let not_closed : not (has_closing_note number notes) ≡ true = (and_parts (is_noted number notes) (not (has_closing_note number notes)) waiting).1 in
       let but : not (has_closing_note number notes) ≡ false = ap not says in cc)
   all_there number waiting (Some (Waits job)) is =
-      let found = place_from_lookup (is_at (nat_cmp number)) standings.entries (Waits job) is in
+      let found = place_from_lookup (is_at (nat_cmp number)) states.entries (Waits job) is in
       let key_is : number ≡ found.1 = eqb-true number found.1 (sym (at_number number found.1) ∙ found.3) in
-      subst (Contains (map (λ one. one.number) (jobs_of standings.entries))) (sym key_is) (has_number notes standings.entries found.0 found.1 job stand_all found.2)
+      subst (Contains (map (λ one. one.number) (jobs_of states.entries))) (sym key_is) (has_number notes states.entries found.0 found.1 job stand_all found.2)
 
-  pub are_waiting : (jobs : List NotedJob) → jobs ≡ filter_map waiting_job (tree.values standings) → AreAwaitingNotice notes jobs
+  pub are_waiting : (jobs : List NotedJob) → jobs ≡ filter_map waiting_job (tree.values states) → AreAwaitingNotice notes jobs
   are_waiting jobs is = subst (AreAwaitingNotice notes) (sym is) (record {
-    each = λ job has. All-contains (λ one. IsWaiting notes one.number one) (jobs_of standings.entries) job (all_wait notes standings.entries stand_all) has;
-    all = λ number waiting. all_there number waiting (tree.get nat_cmp standings number) refl;
-    rise = rise notes standings.entries stand_all ordered;
+    each = λ job has. All-contains (λ one. IsWaiting notes one.number one) (jobs_of states.entries) job (all_wait notes states.entries stand_all) has;
+    all = λ number waiting. all_there number waiting (tree.get nat_cmp states number) refl;
+    rise = rise notes states.entries stand_all ordered;
   })

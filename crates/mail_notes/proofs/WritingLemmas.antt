@@ -1,10 +1,10 @@
--- Each note that can stand in a line has one.
+-- Each note that can be in a line has one.
 use Rattle.std.proofs.Common.{◌≡◌, ℕ, ◌<◌, ◌^◌, Bool, true, false, List, ◌∷◌, ◌++◌, refl}
 use Rattle.std.specs.Prelude.{◌==◌}
 use Rattle.std.specs.Char.{is_ascii_alphanumeric}
-use Rattle.hex_digits.specs.Digits.{digits_of}
-use Rattle.hex_digits.proofs.DigitLemmas.{are_alphanumeric}
-use Rattle.hex_digits.proofs.EightDigits.{digits_spelled}
+use Rattle.text_reader.specs.HexDigits.{digits_of}
+use Rattle.text_reader.proofs.DigitLemmas.{are_alphanumeric}
+use Rattle.text_reader.proofs.EightDigits.{digits_spelled}
 use Rattle.host_calls.specs.Names.{is_name_byte}
 use Rattle.job_name.proofs.JobNameLemmas.{job_is_name}
 use Rattle.spool_model.specs.Users.{is_user_byte}

@@ -3,9 +3,9 @@ use Rattle.std.specs.Prelude.{◌≡◌, ◌<◌, ℕ, Bool, true, false, List, 
 use Rattle.std.specs.BTreeMap as tree
 use Rattle.std.specs.BTreeMap.{BTreeMap}
 use Rattle.std.specs.Ordering.{nat_cmp}
-use Rattle.mail_notes.specs.declared.book.MailBook.{MailBook}
-use Rattle.mail_notes.specs.declared.book.NoticeState.{NoticeState}
-use Rattle.mail_notes.specs.declared.book.NoticeState.TheVariants.{Closed, Waits}
+use Rattle.mail_notes.specs.declared.notice_states.NoticeStates.{NoticeStates}
+use Rattle.mail_notes.specs.declared.notice_states.NoticeState.{NoticeState}
+use Rattle.mail_notes.specs.declared.notice_states.NoticeState.TheVariants.{Closed, Waits}
 use Rattle.mail_notes.specs.declared.note.Note.{Note}
 use Rattle.mail_notes.specs.declared.note.Note.TheVariants.{Dropped, Noted, Sent}
 use Rattle.mail_notes.specs.declared.note.NotedJob.{NotedJob}
@@ -31,11 +31,11 @@ IsNoticeStateAt notes number (Some Closed) = IsClosed notes number
 
 -- the map has what the notes say of each number
 abbrev pub AreNoticeStates : List Note → BTreeMap ℕ NoticeState → Type 0
-AreNoticeStates notes standings = (number : ℕ) → IsNoticeStateAt notes number (tree.get nat_cmp standings number)
+AreNoticeStates notes states = (number : ℕ) → IsNoticeStateAt notes number (tree.get nat_cmp states number)
 
 -- the book is that of the notes
-abbrev pub IsBookOf : List Note → MailBook → Type 0
-IsBookOf notes book = AreNoticeStates notes book.standings
+abbrev pub AreStatesOfNotes : List Note → NoticeStates → Type 0
+AreStatesOfNotes notes notice_states = AreNoticeStates notes notice_states.states
 
 -- the note may come where its job stands so
 abbrev pub note_may_follow : Option NoticeState → Note → Bool
@@ -47,7 +47,7 @@ note_may_follow (Some (Waits waiting)) (Sent number) = true
 note_may_follow (Some (Waits waiting)) (Dropped number) = true
 note_may_follow (Some Closed) note = false
 
--- how the job stands after the note, where that may come
+-- the state of the job after the note, where that may come
 abbrev pub notice_state_after : Note → NoticeState
 notice_state_after (Noted job) = Waits job
 notice_state_after (Sent number) = Closed

@@ -2,7 +2,7 @@
 use Rattle.std.specs.Prelude.{◌≡◌, ◌⊎◌, ◌++◌, [], ◌∷◌, ℕ, List, Option, Some, None, Contains}
 use Rattle.std.specs.FinMap as map
 use Rattle.host_calls.specs.declared.child.Handed.{Handed}
-use Rattle.host_calls.specs.Folder.{Files}
+use Rattle.host_calls.specs.Directory.{Files}
 use Rattle.listing_text.specs.Lines.{turn_text}
 use Rattle.listing_text.specs.declared.turn_step.TurnStepText.{TurnStepText}
 use Rattle.listing_text.specs.declared.turn_step.TurnStepText.TheVariants as step
@@ -53,13 +53,13 @@ pub record HasNotice (of : Mailing) (number : ℕ) (image : Files) : Type 0 wher
 abbrev pub notice_nice : ℕ
 notice_nice = 19
 
--- this was handed over for the note that the notice of the number was sent
+-- this was sent for the note that the notice of the number was sent
 pub record IsHandedFor (of : Mailing) (number : ℕ) (handed : Handed) : Type 0 where
   pub number_is : handed.number ≡ number
   pub notice : IsNoticeOf of number handed.script
   pub nice : handed.nice ≡ notice_nice
 
--- what one note hands over: that a notice was sent its script, another note nothing
+-- what one note sends: that a notice was sent its script, another note nothing
 abbrev pub SendsNotice : Mailing → Note → List Handed → Type 0
 SendsNotice of (Sent number) given = (handed : Handed) × IsHandedFor of number handed × (given ≡ handed ∷ [])
 SendsNotice of (Noted job) given = given ≡ []
@@ -72,8 +72,8 @@ SendsNotices of (note ∷ later) given =
     (first : List Handed) × (rest : List Handed) × SendsNotice of note first × SendsNotices of later rest ×
     (given ≡ first ++ rest)
 
--- The last note is that a notice was sent which was not handed over yet, and the image has it; the notes before have
--- handed over these.
+-- The last note is that a notice was sent which was not sent yet, and the image has it; the notes before have
+-- sent these.
 pub record LacksLastNotice (of : Mailing) (notes : List Note) (image : Files) (given : List Handed) : Type 0 where
   pub earlier : List Note
   pub number : ℕ
@@ -81,7 +81,7 @@ pub record LacksLastNotice (of : Mailing) (notes : List Note) (image : Files) (g
   pub placed : HasNotice of number image
   pub hands : SendsNotices of earlier given
 
--- What was handed over once these notes are in the image. A notice is placed before its note is written, and the note
--- before the notice is handed over, so that of the last note may not be handed over yet.
+-- What was sent once these notes are in the image. A notice is placed before its note is written, and the note
+-- before the notice is sent, so that of the last note may not be sent yet.
 abbrev pub SendsNoticesByNow : Mailing → List Note → Files → List Handed → Type 0
 SendsNoticesByNow of notes image given = SendsNotices of notes given ⊎ LacksLastNotice of notes image given

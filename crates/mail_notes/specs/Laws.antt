@@ -11,7 +11,7 @@ use Rattle.mail_notes.specs.Lines.{Fits, IsNote, SpellsNote, notes_text}
 use Rattle.mail_notes.specs.Names.{IsMailName, notice_file, notice_number}
 use Rattle.mail_notes.specs.Runs.{AreNotesMade, AreNotesStopped, HoldsNotesAlone}
 
--- a note that can stand in a line has one without a newline
+-- a note that can be in a line has one without a newline
 abbrev pub NotesCanBeWritten : Type 0
 NotesCanBeWritten = (note : Note) → IsNote note → CanBeSpelled SpellsNote note
 
@@ -19,9 +19,9 @@ NotesCanBeWritten = (note : Note) → IsNote note → CanBeSpelled SpellsNote no
 abbrev pub NoteFilesAreTexts : Type 0
 NoteFilesAreTexts = (bytes : List ℕ) (notes : List Note) → AreSpelled SpellsNote bytes notes → bytes ≡ notes_text notes
 
--- where the folder is ready, no notes were made
+-- where the directory is ready, no notes were made
 abbrev pub NoNotesAreMade : Type 0
-NoNotesAreMade = (of : Mailing) (notes : List Note) (world : World) → HoldsNotesAlone notes world.now.folder →
+NoNotesAreMade = (of : Mailing) (notes : List Note) (world : World) → HoldsNotesAlone notes world.now.directory →
     AreNotesMade of notes [] [] [] world world
 
 -- notes that were made, and those that were made after them, are made

@@ -2,7 +2,7 @@
 -- and its user, with one space between.
 use Rattle.std.specs.Prelude.{◌≡◌, ◌<◌, ◌^◌, ◌++◌, [], ◌∷◌, ℕ, Bool, List, Option, None, Some, if◌then◌else◌}
 use Rattle.std.specs.List.{flat_map}
-use Rattle.hex_digits.specs.Digits.{digits_of}
+use Rattle.text_reader.specs.HexDigits.{digits_of}
 use Rattle.job_name.specs.JobName.{SpellsJobName}
 use Rattle.spool_model.specs.Users.{IsUserName}
 use Rattle.mail_notes.specs.declared.note.Note.{Note}
@@ -24,11 +24,11 @@ flag_byte always = if always then 49 else 48
 abbrev pub IsFlag : ℕ → Type 0
 IsFlag byte = (always : Bool) × (byte ≡ flag_byte always)
 
--- what stands after the number of a job that was seen
+-- what is after the number of a job that was seen
 abbrev pub noted_job_text : NotedJob → List ℕ
 noted_job_text job = 32 ∷ (job.file ++ (32 ∷ flag_byte job.always ∷ 32 ∷ job.user))
 
--- what stands after the number
+-- what is after the number
 abbrev pub rest_text : Note → List ℕ
 rest_text (Noted job) = noted_job_text job
 rest_text (Sent number) = []
@@ -62,7 +62,7 @@ pub record IsNotedJob (job : NotedJob) : Type 0 where
 abbrev pub Fits : ℕ → Type 0
 Fits number = number < 16 ^ 8
 
--- the note can stand in a line
+-- the note can be in a line
 abbrev pub IsNote : Note → Type 0
 IsNote (Noted job) = Fits job.number × IsNotedJob job
 IsNote (Sent number) = Fits number

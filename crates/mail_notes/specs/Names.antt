@@ -1,8 +1,8 @@
 -- The names of the files of mail (own).
 use Rattle.std.specs.Prelude.{◌≡◌, ◌==◌, ◌&&◌, ◌⊎◌, ◌++◌, ℕ, List, Option, None, codes, drop, length, take, if◌then◌else◌}
 use Rattle.std.specs.Str.{bytes_eq}
-use Rattle.hex_digits.specs.Digits.{digits_of}
-use Rattle.hex_digits.specs.Values.{number_in}
+use Rattle.text_reader.specs.HexDigits.{digits_of}
+use Rattle.text_reader.specs.HexValues.{number_in}
 
 -- the file of the notes
 abbrev pub mail_file : List ℕ

@@ -8,12 +8,12 @@ ghost use Rattle.mail_notes.specs.declared.note.Note.{Note};
 ghost use Rattle.mail_notes.specs.declared.note.NotedJob.{NotedJob};
 
 use crate::{Note, NotedJob};
-use hex_digits::digits_of;
 use host_calls::Name;
 use job_name::JobName;
 use record_lines::{LineRecord, number_in};
 use spool_model::UserName;
 use std::alloc::AllocError;
+use text_reader::digits_of;
 
 // How many digits a number has.
 const DIGITS: usize = 8;
@@ -100,7 +100,7 @@ fn job_in(number: u32, rest: &[u8]) -> Option<NotedJob>
     })
 }
 
-// What stands after the number of a job that was seen, each after a space.
+// What is after the number of a job that was seen, each after a space.
 #[derive(Clone, Copy)]
 struct Parts<'a> {
     file: &'a [u8],
@@ -123,7 +123,7 @@ fn parts_in(rest: &[u8]) -> Option<Parts<'_>>
     })
 }
 
-// What stands after a space.
+// What is after a space.
 fn after_space(rest: &[u8]) -> Option<&[u8]>
     ensures some { IfSome result (λ after. rest.now ≡ 32 ∷ after.now) }
     ensures none { IfNone result ((after : List ℕ) → ¬ (rest.now ≡ 32 ∷ after)) }
@@ -151,7 +151,7 @@ fn tail_in(rest: &[u8]) -> Option<Tail<'_>>
     Some(Tail { flag: *flag, user })
 }
 
-// Where the first space stands.
+// The place of the first space.
 fn space_in(bytes: &[u8]) -> Option<usize>
     ensures { result ≡ position (λ byte. byte == 32) bytes.now }
 {
@@ -189,7 +189,7 @@ fn flag_byte(always: bool) -> u8
     if always { b'1' } else { b'0' }
 }
 
-// Adds what stands after the number.
+// Adds what is after the number.
 fn write_rest(note: &Note, text: &mut Vec<u8>) -> Result<(), AllocError>
     ensures { OnOk result (text.new.items ≡ text.old.items ++ rest_text note.now) }
 {

@@ -2,8 +2,8 @@
 ghost use Rattle.std.specs.Prelude.{◌≡◌};
 ghost use Rattle.mail_notes.specs.Names.{mail_file, mail_temp, notice_file, notice_number};
 
-use hex_digits::{digits_of, read_hex};
 use host_calls::Name;
+use text_reader::{digits_of, read_hex};
 
 /// The name of the file of the notes.
 pub fn mail_name() -> Name

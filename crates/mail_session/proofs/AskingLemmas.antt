@@ -1,4 +1,4 @@
--- Kids that are asked one after another.
+-- Children that are asked one after another.
 use Rattle.std.proofs.Common.{◌≡◌, ◌≤◌, ◌<◌, ◌+◌, ◌++◌, ◌∙◌, ℕ, suc, Bool, true, List, [], ◌∷◌, append_assoc, append-nil, get_or, length, length-append, refl, sym, ap, subst, inl, inr, arith}
 use Rattle.std.specs.Prelude.{Contains, IsErrAnd, Option, None, Some, Result, Ok, Err}
 use Rattle.std.proofs.lemmas.List.Elements.{Contains-get_or}
@@ -11,8 +11,8 @@ use Rattle.daemon_turn.specs.declared.kid.Kid.{Kid}
 use Rattle.daemon_turn.specs.Decisions.{questions}
 use Rattle.daemon_turn.specs.Kids.{AreChildren}
 use Rattle.daemon_turn.proofs.AskLemmas.{questions_of_none}
-use Rattle.mail_session.specs.Asking.{AsksKids, asked_besides, kids_after}
-use Rattle.mail_session.specs.inside.Staying.{kids_left_by, place_by}
+use Rattle.mail_session.specs.AskedChildren.{AsksKids, asked_besides, kids_after}
+use Rattle.mail_session.specs.inside.RemainingChildren.{kids_left_by, place_by}
 
 -- how many of those that answered stay
 abbrev pub count_staying : List (Option Ending) → ℕ
@@ -62,7 +62,7 @@ lengths (kid ∷ kids) [] below = refl
 lengths (kid ∷ kids) (None ∷ answers) below = omega (arith, lengths kids answers (omega arith))
 lengths (kid ∷ kids) (Some ending ∷ answers) below = omega (arith, lengths kids answers (omega arith))
 
--- so many of the kids have answered
+-- so many of the children have answered
 pub record HasAsked (tells : Bool) (kids : List Kid) (count place : ℕ) (left : List Kid) (old new : World) : Type 0 where
   pub answers : List (Option Ending)
   pub counted : length answers ≡ count
@@ -82,7 +82,7 @@ none_asked tells kids world = record {
   asked = λ known. sym (ap (with_asked world) (ap (λ (l : List Asked). world.asked ++ l) (questions_of_none kids) ∙ append-nil world.asked));
 }
 
--- the next one is there
+-- the next one exists
 pub place_inside : (tells : Bool) (kids : List Kid) (count place : ℕ) (left : List Kid) (old new : World) → HasAsked tells kids count place left old new →
     count < length kids → place < length left
 place_inside tells kids count place left old new has below =
@@ -108,7 +108,7 @@ one_asked tells kids count place next left last old middle new kid answer below 
           ∙ ap (λ (l : List Asked). old.asked ++ l) (sym (questions_next kids has.answers kid answer below_now at_now)));
     }
 
--- all kids have answered
+-- all children have answered
 pub all_asked : {E : Type 0} (tells : Bool) (kids : List Kid) (count place : ℕ) (left : List Kid) (old new : World) → count ≡ length kids →
     HasAsked tells kids count place left old new → AsksKids {E = E} tells kids left old new (Ok tt)
 all_asked tells kids count place left old new whole has =
@@ -127,7 +127,7 @@ some_asked tells kids count place left old middle new fault (Err other) is below
   asked = λ known. same known ∙ has.asked known;
 }
 
--- The kids that stay are some of those that there were.
+-- The children that stay are some of those that there were.
 pub kids_among : (kids : List Kid) (answers : List (Option Ending)) (kid : Kid) → Has (kids_after kids answers) kid → Has kids kid
 kids_among [] answers kid has = absurd has
 kids_among (first ∷ kids) [] kid has = has

@@ -8,14 +8,14 @@ use Rattle.host_calls.specs.declared.child.Ending.{Ending}
 use Rattle.host_calls.specs.declared.child.Handed.{Handed}
 use Rattle.host_calls.specs.declared.fault.HostFault.{HostFault}
 use Rattle.host_calls.specs.declared.fault.HostFault.TheVariants.{Failed}
-use Rattle.host_calls.specs.Folder.{IsInNoImage}
+use Rattle.host_calls.specs.Directory.{IsInNoImage}
 use Rattle.host_calls.specs.Session.{CallsInside, Session}
 use Rattle.host_calls.specs.World.{Moment, World, moments, reading}
-use Rattle.host_calls.proofs.FolderLemmas.{reading_is_image}
-use Rattle.host_session.proofs.SessionLemmas.{counts_on}
+use Rattle.host_calls.proofs.DirectoryLemmas.{reading_is_image}
+use Rattle.host_calls.proofs.SessionLemmas.{counts_on}
 use Rattle.spool_shows.proofs.Membership.{has_contained}
 use Rattle.spool_model.specs.JobTable.{JobTable}
-use Rattle.whole_file.specs.Clearing.{AreCleared, AreFiles, IsClearing}
+use Rattle.whole_file.specs.Removal.{AreCleared, AreFiles, IsClearing}
 use Rattle.whole_file.specs.Others.{ChangesFiles}
 use Rattle.whole_file.proofs.ChangesJoined.{changes_end, left_alone}
 use Rattle.daemon_turn.specs.declared.kid.Kid.{Kid}
@@ -29,9 +29,9 @@ use Rattle.mail_notes.specs.Runs.{AreNotesMade, AreNotesStopped}
 use Rattle.mail_session.specs.declared.plan.MailPlan.{MailPlan}
 use Rattle.mail_session.specs.Dues.{sent_numbers}
 use Rattle.mail_session.specs.NoticeFiles.{ReadsBeside}
-use Rattle.mail_session.specs.Posting.{MailPart}
+use Rattle.mail_session.specs.DueNotices.{MailPart}
 use Rattle.mail_session.specs.Sessions.{IsCleared, AreNotesOpened}
-use Rattle.mail_session.specs.inside.Working.{CarriesOutPlan, CarriesTo, GivesAsked, GoesFurther, Makes, MayCarryOut, ReadsNotices, steps_by}
+use Rattle.mail_session.specs.inside.SessionWork.{RunsPlan, CarriesTo, GivesAsked, GoesFurther, Makes, MayRunPlan, ReadsNotices, steps_by}
 use Rattle.mail_session.proofs.AskingLemmas.{after_none}
 use Rattle.mail_session.proofs.NotingLemmas.{notice_apart}
 use Rattle.mail_session.proofs.ReadLemmas.{notes_are_no_notice}
@@ -42,12 +42,12 @@ abbrev nothing : MailPart
 nothing = record { made = []; next = []; added = [] }
 
 -- the files that are left over may be removed
-pub may_clear : (opened : World) (kids : List Kid) (plan : MailPlan) → MayCarryOut opened kids plan → AreFiles plan.stale.items (reading opened)
+pub may_clear : (opened : World) (kids : List Kid) (plan : MailPlan) → MayRunPlan opened kids plan → AreFiles plan.stale.items (reading opened)
 may_clear opened kids plan may = subst (λ (names : List (List ℕ)). AreFiles names (reading opened)) (sym may.stale) (stale_are_files kids (reading opened))
 
 module _ (tells : Bool) (before between : Session) (old cleared : World) (plan : MailPlan) (kids : List Kid) (sent : List ℕ)
-    (may : tells ≡ true → MayCarryOut old kids plan)
-    (changes : tells ≡ true → ChangesFiles (IsClearing plan.stale.items old.now.folder) old cleared) where
+    (may : tells ≡ true → MayRunPlan old kids plan)
+    (changes : tells ≡ true → ChangesFiles (IsClearing plan.stale.items old.now.directory) old cleared) where
   of_mail : (known : tells ≡ true) → (name : List ℕ) → Contains plan.stale.items name → IsMailName name × (name ≢ mail_file)
   of_mail known name among =
       stale_of_mail kids (reading old) name (subst (λ (names : List (List ℕ)). Contains names name) (may known).stale among)
@@ -57,10 +57,10 @@ module _ (tells : Bool) (before between : Session) (old cleared : World) (plan :
 
   -- a file could not be removed
   pub clear_stops : (program : List ℕ) (fault : HostFault) (result : Result (Unit {0}) HostFault) → IsErrAnd result (λ other. other ≡ fault) → CallsInside {T = Unit {0}} Failed before between (Err fault) →
-      CarriesOutPlan program tells before between old cleared plan kids kids sent sent result
+      RunsPlan program tells before between old cleared plan kids kids sent sent result
   clear_stops program fault (Ok done) is inside = absurd is
   clear_stops program fault (Err other) is inside =
-      subst (λ (one : HostFault). CarriesOutPlan program tells before between old cleared plan kids kids sent sent (Err one)) (sym is) (record {
+      subst (λ (one : HostFault). RunsPlan program tells before between old cleared plan kids kids sent sent (Err one)) (sym is) (record {
         part = nothing;
         answers = [];
         goes = record {
@@ -89,27 +89,27 @@ module _ (tells : Bool) (before between : Session) (old cleared : World) (plan :
       })
 
   module _ (inside : CallsInside {T = Unit {0}} Failed before between (Ok tt))
-      (gone : tells ≡ true → plan.stale.items ≢ [] → AreCleared plan.stale.items old.now.folder cleared.now.folder) where
+      (gone : tells ≡ true → plan.stale.items ≢ [] → AreCleared plan.stale.items old.now.directory cleared.now.directory) where
     pub is_cleared : (known : tells ≡ true) (notes : List Note) (table : JobTable) (start : World) → AreNotesOpened notes table start old → IsCleared notes table start cleared
     is_cleared known notes table start is_opened =
         leftovers_are_cleared notes table plan.stale.items start old cleared is_opened (of_mail known) (temp known) (changes known) (gone known)
 
     -- nothing is in the way of the steps
-    pub no_temp_left : tells ≡ true → IsInNoImage cleared.now.folder mail_temp
+    pub no_temp_left : tells ≡ true → IsInNoImage cleared.now.directory mail_temp
     no_temp_left known = (is_cleared known (may known).notes (may known).table (may known).start (may known).is_opened).ready.no_temp
 
-    clearing_of : (known : tells ≡ true) → IsClearing plan.stale.items old.now.folder (reading cleared)
-    clearing_of known = changes_end (IsClearing plan.stale.items old.now.folder) old cleared (changes known)
-        (λ one was. record { alone = left_alone (Contains plan.stale.items) old.now.folder one was; less = λ name. inl refl }) (reading cleared) (reading_is_image cleared.now.folder)
+    clearing_of : (known : tells ≡ true) → IsClearing plan.stale.items old.now.directory (reading cleared)
+    clearing_of known = changes_end (IsClearing plan.stale.items old.now.directory) old cleared (changes known)
+        (λ one was. record { alone = left_alone (Contains plan.stale.items) old.now.directory one was; less = λ name. inl refl }) (reading cleared) (reading_is_image cleared.now.directory)
 
-    -- a notice of a kid stays
+    -- a notice of a child stays
     notice_kept : (known : tells ≡ true) (notes : List Note) (table : JobTable) (start : World) → AreNotesOpened notes table start old → (number : ℕ) → Fits number → has_kid kids number ≡ true →
         finite.get (reading cleared) (notice_file number) ≡ finite.get (reading old) (notice_file number)
     notice_kept known notes table start is number fits has =
         let clearing = clearing_of known in
         clearing.alone.others (notice_file number) (λ among. never (sym (stale_there kids (reading old) (notice_file number)
         (subst (λ (names : List (List ℕ)). Contains names (notice_file number)) (may known).stale among)).1 ∙ notice_is_stale kids number fits ∙ ap not has))
-        ∙ is.certain clearing.alone.from clearing.alone.was (notice_file number) (inr (inr (number, refl))) where
+        ∙ is.durable clearing.alone.from clearing.alone.was (notice_file number) (inr (inr (number, refl))) where
           never : true ≡ false → ⊥
           never bad = cc
 
@@ -119,7 +119,7 @@ module _ (tells : Bool) (before between : Session) (old cleared : World) (plan :
     notice_gone known notes table start is number fits lacks None none =
         let clearing = clearing_of known in
         elim (clearing.less (notice_file number)) [
-          | inl same ↦ same ∙ is.certain clearing.alone.from clearing.alone.was (notice_file number) (inr (inr (number, refl))) ∙ none
+          | inl same ↦ same ∙ is.durable clearing.alone.from clearing.alone.was (notice_file number) (inr (inr (number, refl))) ∙ none
           | inr gone_now ↦ gone_now
         ]
     notice_gone known notes table start is number fits lacks (Some bytes) there =
@@ -127,7 +127,7 @@ module _ (tells : Bool) (before between : Session) (old cleared : World) (plan :
         subst (λ (names : List (List ℕ)). Contains names (notice_file number)) (sym (may known).stale)
         (stale_among kids (reading old) (notice_file number) (subst IsSome (sym there) refl) (notice_is_stale kids number fits ∙ ap not lacks)) in
         (gone known (λ none. has_contained [] (notice_file number) (subst (λ (names : List (List ℕ)). Contains names (notice_file number)) none among))).gone
-        (notice_file number) among (reading cleared) (reading_is_image cleared.now.folder)
+        (notice_file number) among (reading cleared) (reading_is_image cleared.now.directory)
 
     reads_notices : (known : tells ≡ true) (notes : List Note) (table : JobTable) (start : World) → AreNotesOpened notes table start old → (numbers : List ℕ) (new : World) →
         ReadsBeside numbers cleared new → ReadsNotices kids numbers old new
@@ -161,8 +161,8 @@ module _ (tells : Bool) (before between : Session) (old cleared : World) (plan :
           ready = made.ready;
           alone = λ image of_it.
               let now = made.alone image of_it in
-              let clearing = changes_end (IsClearing plan.stale.items old.now.folder) old cleared (changes known)
-              (λ one was. record { alone = left_alone (Contains plan.stale.items) old.now.folder one was; less = λ name. inl refl }) now.from now.was in
+              let clearing = changes_end (IsClearing plan.stale.items old.now.directory) old cleared (changes known)
+              (λ one was. record { alone = left_alone (Contains plan.stale.items) old.now.directory one was; less = λ name. inl refl }) now.from now.was in
               record {
                 from = clearing.alone.from;
                 was = clearing.alone.was;
@@ -188,7 +188,7 @@ module _ (tells : Bool) (before between : Session) (old cleared : World) (plan :
 
     -- the steps were made, or the first of them
     pub carried : (program : List ℕ) (after : Session) (new : World) (left : List Kid) (more : List ℕ) (result : Result (Unit {0}) HostFault) →
-        Makes program tells between after cleared new plan kids left sent more result → CarriesOutPlan program tells before after old new plan kids left sent more result
+        Makes program tells between after cleared new plan kids left sent more result → RunsPlan program tells before after old new plan kids left sent more result
     carried program after new left more result makes = record {
       part = makes.part;
       answers = makes.answers;

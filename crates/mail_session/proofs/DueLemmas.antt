@@ -76,6 +76,6 @@ module _ (of : Mailing) (notes : List Note) (table : JobTable) (without : table 
       due_more job (All-head (λ one. Contains notes (Noted one)) job later all) (filter_map (λ one. due_of_entry one (entry_at table one.number)) later)
       (due_all later (All-tail (λ one. Contains notes (Noted one)) job later all)) (entry_at table job.number) refl
 
-  pub dues_are_due : (dues : List NoticeDue) → AreDuesOf table notes dues → AreDue of dues
-  dues_are_due dues are = subst (AreDue of) (sym are.dues_are)
+  pub dues_are_due : (due_notices : List NoticeDue) → AreDuesOf table notes due_notices → AreDue of due_notices
+  dues_are_due due_notices are = subst (AreDue of) (sym are.dues_are)
       (due_all are.jobs (All-weaker (Contains are.jobs) (λ job. Contains notes (Noted job)) (λ job has. (are.waiting.each job has).noted) are.jobs (All-contains_itself are.jobs)))

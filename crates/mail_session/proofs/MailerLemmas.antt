@@ -10,8 +10,8 @@ use Rattle.host_calls.specs.declared.host.Host.{Ghosts}
 use Rattle.host_calls.specs.Causes.{Rose}
 use Rattle.host_calls.specs.Session.{Enters, IsLeft, Session}
 use Rattle.host_calls.specs.World.{World, reading}
-use Rattle.host_session.specs.Work.{Calls, EndsSession, IsWorkUndone}
-use Rattle.host_session.proofs.SessionLemmas.{counts_on}
+use Rattle.host_calls.specs.SessionWork.{Calls, EndsSession, IsWorkUndone}
+use Rattle.host_calls.proofs.SessionLemmas.{counts_on}
 use Rattle.spool_shows.specs.Shown.{shown_by}
 use Rattle.host_calls.specs.declared.store_fault.StoreFault.{StoreFault}
 use Rattle.host_calls.specs.declared.store_fault.StoreFault.TheVariants as fault
@@ -19,17 +19,17 @@ use Rattle.host_calls.specs.StoreFaults.{IsReadingFault}
 use Rattle.step_runs.specs.Calls.{ShowsAsBefore}
 use Rattle.whole_file.proofs.OthersLemmas.{changes_none}
 use Rattle.daemon_turn.specs.declared.kid.Kid.{Kid}
-use Rattle.host_session.specs.declared.turn_end.TurnEnd.{TurnEnd}
-use Rattle.host_session.specs.declared.turn_end.TurnEnd.TheVariants.{Busy, Damaged, Done, FileFault, Memory}
+use Rattle.host_calls.specs.declared.turn_end.TurnEnd.{TurnEnd}
+use Rattle.host_calls.specs.declared.turn_end.TurnEnd.TheVariants.{Busy, Damaged, Done, FileFault, Memory}
 use Rattle.daemon_turn.specs.Kids.{AreChildren}
-use Rattle.daemon_turn.specs.Leaving.{IfNoTableRead}
-use Rattle.host_session.specs.Ends.{end_after, end_of_session}
-use Rattle.host_session.proofs.EndLemmas.{is_fault, not_busy}
+use Rattle.daemon_turn.specs.TurnOutcome.{IfNoTableRead}
+use Rattle.host_calls.specs.SessionEnds.{end_after, end_of_session}
+use Rattle.host_calls.proofs.SessionEndLemmas.{is_fault, not_busy}
 use Rattle.mail_notes.specs.declared.note.Note.{Note}
 use Rattle.mail_notes.specs.Hands.{Mailing}
-use Rattle.mail_session.specs.Leaving.{SessionHandsOver, IsMailIdle, IsNothingSent, IsMailStopped, IsMailDone, MailLeaves, PostSpool, PostsTo}
+use Rattle.mail_session.specs.SessionOutcome.{SessionHandsOver, IsMailIdle, IsNothingSent, IsMailStopped, IsMailDone, MailLeaves, PostSpool, PostsTo}
 use Rattle.mail_session.specs.PostState.{PostState}
-use Rattle.mail_session.specs.inside.Working.{MailWorks}
+use Rattle.mail_session.specs.inside.SessionWork.{MailWorks}
 use Rattle.mail_session.proofs.SessionLemmas.{recovery_leaves, recovery_now}
 
 abbrev at : Session → World → PostState → PostSpool
@@ -43,8 +43,8 @@ idle_same before after old new post same = record {
   shown = ap (λ (world : World). shown_by (reading world)) same;
   asked = ap (λ (world : World). world.asked) same;
 } where
-  unchanged : Rattle.whole_file.specs.Others.ChangesFiles (ShowsAsBefore old.now.folder) old new
-  unchanged = subst (Rattle.whole_file.specs.Others.ChangesFiles (ShowsAsBefore old.now.folder) old) (sym same) (changes_none (ShowsAsBefore old.now.folder) old)
+  unchanged : Rattle.whole_file.specs.Others.ChangesFiles (ShowsAsBefore old.now.directory) old new
+  unchanged = subst (Rattle.whole_file.specs.Others.ChangesFiles (ShowsAsBefore old.now.directory) old) (sym same) (changes_none (ShowsAsBefore old.now.directory) old)
 
 -- a session that could not be entered
 module _ (tells alone : Bool) (before after : Session) (old new : World) (post : PostState) (of : EnterFault) (enters : Enters {T = Unit {0}} before after (Err of))

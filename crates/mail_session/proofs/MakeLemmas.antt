@@ -1,4 +1,4 @@
--- The steps of a session: kids are asked, the new jobs noted, and what is due is made.
+-- The steps of a session: children are asked, the new jobs noted, and what is due is made.
 use Rattle.std.proofs.Common.{◌≡◌, ◌∙◌, ◌++◌, ℕ, Bool, true, List, [], ◌∷◌, append_assoc, append-nil, length, map, refl, sym, ap, subst, arith}
 use Rattle.std.specs.Prelude.{IfOk, IsErrAnd, Option, Result, Ok, Err}
 use Rattle.host_calls.specs.declared.child.Asked.{Asked}
@@ -8,7 +8,7 @@ use Rattle.host_calls.specs.declared.fault.HostFault.{HostFault}
 use Rattle.host_calls.specs.declared.fault.HostFault.TheVariants.{Memory}
 use Rattle.host_calls.specs.Session.{Session, StaysInside}
 use Rattle.host_calls.specs.World.{World}
-use Rattle.host_session.proofs.SessionLemmas.{counts_on}
+use Rattle.host_calls.proofs.SessionLemmas.{counts_on}
 use Rattle.daemon_turn.specs.declared.kid.Kid.{Kid}
 use Rattle.daemon_turn.specs.Decisions.{questions}
 use Rattle.mail_notes.specs.declared.note.Note.{Note}
@@ -19,21 +19,21 @@ use Rattle.mail_notes.specs.Runs.{AreNotesMade, AreNotesStopped, HoldsNotesAlone
 use Rattle.mail_notes.proofs.RunLemmas.{no_notes_are_made, notes_are_made_after, notes_are_stopped_after}
 use Rattle.mail_session.specs.declared.due.NoticeDue.{NoticeDue}
 use Rattle.mail_session.specs.declared.plan.MailPlan.{MailPlan}
-use Rattle.mail_session.specs.Asking.{AsksKids, asked_besides, kids_after}
+use Rattle.mail_session.specs.AskedChildren.{AsksKids, asked_besides, kids_after}
 use Rattle.mail_session.specs.Dues.{notes_of, sent_numbers}
 use Rattle.mail_session.specs.Laws.{QuestionsMakeNoNote}
 use Rattle.mail_session.specs.News.{noting_of}
 use Rattle.mail_session.specs.NoticeFiles.{ReadsBeside}
-use Rattle.mail_session.specs.Noting.{Notes}
+use Rattle.mail_session.specs.NewNotes.{Notes}
 use Rattle.mail_session.proofs.ReadLemmas.{reads_both}
-use Rattle.mail_session.specs.Posting.{SendsPart, MailPart, Posts}
-use Rattle.mail_session.specs.inside.Working.{Makes, NotesMakingEnds, steps_by}
+use Rattle.mail_session.specs.DueNotices.{SendsPart, MailPart, Posts}
+use Rattle.mail_session.specs.inside.SessionWork.{Makes, NotesMakingEnds, steps_by}
 use Rattle.mail_session.proofs.NotingLemmas.{along_none}
 use Rattle.mail_session.proofs.SendLemmas.{not_memory}
 
 -- Questions.
 
--- a question changes no file, hands nothing over and makes no note
+-- a question changes no file, starts nothing and makes no note
 pub questions_make_no_note : QuestionsMakeNoNote
 questions_make_no_note of notes kids answers world ready =
     let made = no_notes_are_made of notes world ready in
@@ -46,12 +46,12 @@ questions_make_no_note of notes kids answers world ready =
       asked = refl;
     }
 
-asked_at : (of : Mailing) (notes : List Note) (kids : List Kid) (answers : List (Option Ending)) (old new : World) → HoldsNotesAlone notes old.now.folder →
+asked_at : (of : Mailing) (notes : List Note) (kids : List Kid) (answers : List (Option Ending)) (old new : World) → HoldsNotesAlone notes old.now.directory →
     new ≡ asked_besides kids answers old → AreNotesMade of notes [] [] (questions kids answers) old new
 asked_at of notes kids answers old new ready is =
     subst (AreNotesMade of notes [] [] (questions kids answers) old) (sym is) (questions_make_no_note of notes kids answers old ready)
 
-asked_stopped : (of : Mailing) (notes : List Note) (kids : List Kid) (answers : List (Option Ending)) (old new : World) → HoldsNotesAlone notes old.now.folder →
+asked_stopped : (of : Mailing) (notes : List Note) (kids : List Kid) (answers : List (Option Ending)) (old new : World) → HoldsNotesAlone notes old.now.directory →
     new ≡ asked_besides kids answers old → AreNotesStopped of notes [] [] [] (questions kids answers) old new
 asked_stopped of notes kids answers old new ready is =
     let made = questions_make_no_note of notes kids answers old ready in
@@ -64,23 +64,23 @@ asked_stopped of notes kids answers old new ready is =
     })
 
 -- that jobs were seen sends nothing
-sent_after_noting : (news : List NotedJob) (made : List Note) → sent_numbers (noting_of news ++ made) ≡ sent_numbers made
+sent_after_noting : (new_jobs : List NotedJob) (made : List Note) → sent_numbers (noting_of new_jobs ++ made) ≡ sent_numbers made
 sent_after_noting [] made = refl
-sent_after_noting (job ∷ news) made = sent_after_noting news made
+sent_after_noting (job ∷ new_jobs) made = sent_after_noting new_jobs made
 
 abbrev nothing : MailPart
 nothing = record { made = []; next = []; added = [] }
 
 module _ (program : List ℕ) (tells : Bool) (before between : Session) (old asked : World) (plan : MailPlan) (kids left : List Kid) (sent : List ℕ)
     (stays : StaysInside before between) where
-  abbrev news : List NotedJob
-  news = plan.news.items
+  abbrev new_jobs : List NotedJob
+  new_jobs = plan.new_jobs.items
 
-  abbrev dues : List NoticeDue
-  dues = plan.dues.items
+  abbrev due_notices : List NoticeDue
+  due_notices = plan.due_notices.items
 
   abbrev noting : List Note
-  noting = noting_of news
+  noting = noting_of new_jobs
 
   -- memory was wanting for a question
   pub ask_wants : (result : Result (Unit {0}) HostFault) → IsErrAnd result (λ other. other ≡ Memory) → {E : Type 0} (of_ask : Result (Unit {0}) E) → AsksKids {E = E} tells kids left old asked of_ask →
@@ -114,7 +114,7 @@ module _ (program : List ℕ) (tells : Bool) (before between : Session) (old ask
     text_after of notes is = is ∙ ap (λ (l : List Note). notes_text (l ++ noting)) (sym (append-nil notes))
 
     -- the new jobs could not be noted
-    pub note_stops : (fault : HostFault) (result : Result (Unit {0}) HostFault) → IsErrAnd result (λ other. other ≡ fault) → Notes tells between then asked noted news plan.text.items (Err fault) →
+    pub note_stops : (fault : HostFault) (result : Result (Unit {0}) HostFault) → IsErrAnd result (λ other. other ≡ fault) → Notes tells between then asked noted new_jobs plan.text.items (Err fault) →
         Makes program tells before then old noted plan kids left sent sent result
     note_stops fault (Ok done) is notes_them = absurd is
     note_stops fault (Err other) is notes_them =
@@ -130,7 +130,7 @@ module _ (program : List ℕ) (tells : Bool) (before between : Session) (old ask
             };
             children = notes_them.inside.stays.children ∙ stays.children ∙ sym (append-nil before.children);
             few = asks.few;
-            prefix = (notes_of dues, refl);
+            prefix = (notes_of due_notices, refl);
             all = tt;
             kids_are = asks.left_are ∙ sym (append-nil (kids_after kids asks.answers));
             sent_are = sym (append-nil sent);
@@ -147,9 +147,9 @@ module _ (program : List ℕ) (tells : Bool) (before between : Session) (old ask
               };
         })
 
-    module _ (notes_them : Notes tells between then asked noted news plan.text.items (Ok tt)) (after : Session) (new : World) (gone is : List ℕ) (more : List Kid)
-        (result : Result (Unit {0}) HostFault) (posts : Posts program tells then after noted new dues plan.text.items is left more sent gone result) where
-      noted_so : (of : Mailing) (notes : List Note) → tells ≡ true → HoldsNotesAlone notes old.now.folder → plan.text.items ≡ notes_text (notes ++ noting) →
+    module _ (notes_them : Notes tells between then asked noted new_jobs plan.text.items (Ok tt)) (after : Session) (new : World) (gone is : List ℕ) (more : List Kid)
+        (result : Result (Unit {0}) HostFault) (posts : Posts program tells then after noted new due_notices plan.text.items is left more sent gone result) where
+      noted_so : (of : Mailing) (notes : List Note) → tells ≡ true → HoldsNotesAlone notes old.now.directory → plan.text.items ≡ notes_text (notes ++ noting) →
           AreNotesMade of notes noting [] (questions kids asks.answers) old noted
       noted_so of notes known ready text_is =
           let made = asked_at of notes kids asks.answers old asked ready (asks.asked known) in
@@ -172,7 +172,7 @@ module _ (program : List ℕ) (tells : Bool) (before between : Session) (old ask
           subst (λ (l : List Asked). AreNotesStopped of notes (noting ++ posts.part.made) posts.part.next gives.given l old new) (append-nil (questions kids asks.answers))
           (notes_are_stopped_after of notes noting posts.part.made posts.part.next [] gives.given (questions kids asks.answers) [] old noted new made gives.ends)
 
-      all_so : (one : Result (Unit {0}) HostFault) → IfOk one (λ done. posts.part.made ≡ notes_of dues) →
+      all_so : (one : Result (Unit {0}) HostFault) → IfOk one (λ done. posts.part.made ≡ notes_of due_notices) →
           IfOk one (λ done. (noting ++ posts.part.made ≡ steps_by plan) × (length asks.answers ≡ length kids))
       all_so (Ok done) is = (ap (λ (l : List Note). noting ++ l) is, asks.all)
       all_so (Err fault) is = tt
@@ -199,9 +199,9 @@ module _ (program : List ℕ) (tells : Bool) (before between : Session) (old ask
           );
           all = all_so result posts.all;
           kids_are = posts.kids_are ∙ ap (λ (l : List Kid). l ++ posts.part.added) asks.left_are;
-          sent_are = posts.sent_are ∙ ap (λ (l : List ℕ). sent ++ l) (sym (sent_after_noting news posts.part.made));
+          sent_are = posts.sent_are ∙ ap (λ (l : List ℕ). sent ++ l) (sym (sent_after_noting new_jobs posts.part.made));
         };
-        reads = λ known. subst (λ (l : List ℕ). IfOk result (λ done. ReadsBeside l old new)) (sym (sent_after_noting news posts.part.made))
+        reads = λ known. subst (λ (l : List ℕ). IfOk result (λ done. ReadsBeside l old new)) (sym (sent_after_noting new_jobs posts.part.made))
             (reads_both [] (sent_numbers posts.part.made) old noted new result (reads_asked known) (posts.reads known));
         files = λ known of notes same ready text_is due.
             let made = noted_so of notes known ready text_is in

@@ -6,7 +6,7 @@ use Rattle.std.specs.Option.{option_copied}
 use Rattle.std.specs.List.{All, items_where_true}
 use Rattle.std.proofs.lemmas.List.{map-append, take_more}
 use Rattle.std.proofs.lemmas.List.Elements.{All-cons, All-head, All-nil, All-push, All-tail}
-use Rattle.host_calls.specs.Folder.{Folder, reading_of}
+use Rattle.host_calls.specs.Directory.{Directory, reading_of}
 use Rattle.job_name.specs.JobName.{SpellsJobName}
 use Rattle.spool_model.specs.declared.entry.Entry.TheVariants.{Live}
 use Rattle.spool_model.specs.declared.job.Job.{Job}
@@ -20,8 +20,8 @@ use Rattle.record_lines.proofs.SayingLemmas.{saying_names}
 use Rattle.mail_notes.specs.declared.note.NotedJob.{NotedJob}
 use Rattle.mail_notes.specs.Book.{IsNoticeStateAt}
 use Rattle.mail_notes.specs.Notes.{has_note_of, is_noting, is_note_of}
-use Rattle.mail_notes.specs.declared.book.NoticeState.{NoticeState}
-use Rattle.mail_notes.specs.declared.book.NoticeState.TheVariants.{Closed, Waits}
+use Rattle.mail_notes.specs.declared.notice_states.NoticeState.{NoticeState}
+use Rattle.mail_notes.specs.declared.notice_states.NoticeState.TheVariants.{Closed, Waits}
 use Rattle.mail_notes.specs.declared.note.Note.{Note}
 use Rattle.spool_shows.proofs.Membership.{contained, made_has}
 use Rattle.spool_store.specs.Listed.{IsLive, ListsLive}
@@ -40,10 +40,10 @@ minute_of : (job other : Job) → other ≡ job_without_script job → other.min
 minute_of job other is = ap (λ (j : Job). j.minute) is
 
 -- what the store says of the file and of the header is what is noted
-pub noted_from : (kept : Kept) (folder : Folder) (table : JobTable) (number : ℕ) (file user : List ℕ) (always : Bool) → IsCurrent kept folder table →
-    IsLiveFileName kept.table kept.old_form number file → HoldsScript table folder number file → IsHeaderOn table number (record { user = user; mail = always }) →
-    IsNotedFrom (reading_of folder) table (record { number = number; file = file; always = always; user = user })
-noted_from kept folder table number file user always current of holds header =
+pub noted_from : (kept : Kept) (directory : Directory) (table : JobTable) (number : ℕ) (file user : List ℕ) (always : Bool) → IsCurrent kept directory table →
+    IsLiveFileName kept.table kept.old_form number file → HoldsScript table directory number file → IsHeaderOn table number (record { user = user; mail = always }) →
+    IsNotedFrom (reading_of directory) table (record { number = number; file = file; always = always; user = user })
+noted_from kept directory table number file user always current of holds header =
     let script = holds.script in
     let bare : Some (Live of.job of.state) ≡ Some (Live (job_without_script script.job) script.state) =
     sym of.lives ∙ ap (λ (t : JobTable). entry_at t number) current.without_scripts_is ∙ entries_are_without_scripts table number
@@ -91,15 +91,15 @@ kept_all P (test ∷ tests) [] all = All-nil P
 kept_all P (true ∷ tests) (x ∷ xs) all = All-cons P x (items_where_true tests xs) (All-head P x xs all) (kept_all P tests xs (All-tail P x xs all))
 kept_all P (false ∷ tests) (x ∷ xs) all = kept_all P tests xs (All-tail P x xs all)
 
--- one number more
-pub number_more : (numbers : List ℕ) (place : ℕ) (number : ℕ) (news after : List NotedJob) (job : NotedJob) → place < length numbers → number ≡ get_or numbers place number →
-    map (λ (one : NotedJob). one.number) news ≡ take place numbers → after ≡ news ++ job ∷ [] → job.number ≡ number →
+-- one more number
+pub number_more : (numbers : List ℕ) (place : ℕ) (number : ℕ) (new_jobs after : List NotedJob) (job : NotedJob) → place < length numbers → number ≡ get_or numbers place number →
+    map (λ (one : NotedJob). one.number) new_jobs ≡ take place numbers → after ≡ new_jobs ++ job ∷ [] → job.number ≡ number →
     map (λ (one : NotedJob). one.number) after ≡ take (place + 1) numbers
-number_more numbers place number news after job inside at so_far added number_is =
-    ap (map (λ (one : NotedJob). one.number)) added ∙ map-append (λ (one : NotedJob). one.number) news (job ∷ [])
+number_more numbers place number new_jobs after job inside at so_far added number_is =
+    ap (map (λ (one : NotedJob). one.number)) added ∙ map-append (λ (one : NotedJob). one.number) new_jobs (job ∷ [])
     ∙ ap (λ (l : List ℕ). l ++ job.number ∷ []) so_far ∙ ap (λ (n : ℕ). take place numbers ++ n ∷ []) (number_is ∙ at)
     ∙ sym (take_more numbers place number inside)
 
--- one job more of which it holds
-pub one_more : (P : NotedJob → Type 0) (news after : List NotedJob) (job : NotedJob) → All P news → P job → after ≡ news ++ job ∷ [] → All P after
-one_more P news after job all one added = subst (All P) (sym added) (All-push P news job all one)
+-- one more job of which it holds
+pub one_more : (P : NotedJob → Type 0) (new_jobs after : List NotedJob) (job : NotedJob) → All P new_jobs → P job → after ≡ new_jobs ++ job ∷ [] → All P after
+one_more P new_jobs after job all one added = subst (All P) (sym added) (All-push P new_jobs job all one)

@@ -4,21 +4,21 @@ use Rattle.std.specs.Prelude.{OnOk, Result}
 use Rattle.std.specs.FinMap as map
 use Rattle.host_calls.specs.declared.fault.HostFault.{HostFault}
 use Rattle.host_calls.specs.declared.child.Handed.{Handed}
-use Rattle.host_calls.specs.Folder.{Files, Folder, IsImage}
+use Rattle.host_calls.specs.Directory.{Files, Directory, IsImage}
 use Rattle.host_calls.specs.World.{LeavesOnly, Moment, World}
 use Rattle.host_calls.proofs.WorldLemmas.{leaves_weaker}
 use Rattle.whole_file.specs.Others.{ChangesFiles, IsEither, LeavesOthers}
-use Rattle.whole_file.specs.Placing.{IsPlaced, IsPlacing}
+use Rattle.whole_file.specs.Placement.{IsPlaced, IsPlacing}
 use Rattle.whole_file.proofs.ChangesJoined.{changes_end, left_alone}
 use Rattle.mail_notes.specs.declared.note.Note.{Note}
 use Rattle.mail_notes.specs.Hands.{SendsNotices, SendsNoticesByNow, Mailing}
 use Rattle.mail_notes.specs.Lines.{HoldsNotes, notes_text}
 use Rattle.mail_notes.specs.Names.{IsMailName, mail_file, mail_temp, notice_file}
 use Rattle.mail_notes.specs.Runs.{AreNotesMade, AreNotesStopped, IsAlongNotes, HoldsNotesAlone}
-use Rattle.mail_session.specs.inside.Sending.{Places}
+use Rattle.mail_session.specs.inside.SentNotice.{Places}
 
 -- an image that holds the notes, before any of the new ones
-pub along_none : (of : Mailing) (notes new_ones : List Note) (start : Moment) (image : Files) → LeavesOthers IsMailName start.folder image →
+pub along_none : (of : Mailing) (notes new_ones : List Note) (start : Moment) (image : Files) → LeavesOthers IsMailName start.directory image →
     HoldsNotes (map.get image mail_file) notes → IsAlongNotes of notes new_ones start image start.handed
 along_none of notes new_ones start image alone holds = record {
   prefix = [];
@@ -30,9 +30,9 @@ along_none of notes new_ones start image alone holds = record {
   hands = inl refl;
 }
 
--- and one that holds all of the new ones, once these were handed over
+-- and one that holds all of the new ones, once these were sent
 pub along_all : (of : Mailing) (notes new_ones : List Note) (start : Moment) (image : Files) (given handed : List Handed) →
-    LeavesOthers IsMailName start.folder image → HoldsNotes (map.get image mail_file) (notes ++ new_ones) → SendsNoticesByNow of new_ones image given →
+    LeavesOthers IsMailName start.directory image → HoldsNotes (map.get image mail_file) (notes ++ new_ones) → SendsNoticesByNow of new_ones image given →
     handed ≡ start.handed ++ given → IsAlongNotes of notes new_ones start image handed
 along_all of notes new_ones start image given handed alone holds by_now grown = record {
   prefix = new_ones;
@@ -66,37 +66,37 @@ either_mail : (target name : List ℕ) → IsMailName target → IsEither mail_t
 either_mail target name mail (inl is) = inr (inl is)
 either_mail target name mail (inr is) = subst IsMailName (sym is) mail
 
-pub alone_of : (target : List ℕ) → IsMailName target → (start : Folder) (image : Files) → LeavesOthers (IsEither mail_temp target) start image →
+pub alone_of : (target : List ℕ) → IsMailName target → (start : Directory) (image : Files) → LeavesOthers (IsEither mail_temp target) start image →
     LeavesOthers IsMailName start image
 alone_of target mail start image is = record { from = is.from; was = is.was; others = λ name other. is.others name (λ either. other (either_mail target name mail either)) }
 
 -- the images of a placing's end
-pub placing_end : (target bytes : List ℕ) (old new : World) → ChangesFiles (IsPlacing mail_temp target bytes old.now.folder) old new → (image : Files) →
-    IsImage new.now.folder image → IsPlacing mail_temp target bytes old.now.folder image
+pub placing_end : (target bytes : List ℕ) (old new : World) → ChangesFiles (IsPlacing mail_temp target bytes old.now.directory) old new → (image : Files) →
+    IsImage new.now.directory image → IsPlacing mail_temp target bytes old.now.directory image
 placing_end target bytes old new changes =
-    changes_end (IsPlacing mail_temp target bytes old.now.folder) old new changes
-    (λ one was. record { alone = left_alone (IsEither mail_temp target) old.now.folder one was; placed = inl refl })
+    changes_end (IsPlacing mail_temp target bytes old.now.directory) old new changes
+    (λ one was. record { alone = left_alone (IsEither mail_temp target) old.now.directory one was; placed = inl refl })
 
 -- what a placing leaves, by the names that it was made with
 pub placed_under : (temp own target bytes : List ℕ) (old new : World) (result : Result (Unit {0}) HostFault) → temp ≡ mail_temp → own ≡ target →
-    ChangesFiles (IsPlacing temp own bytes old.now.folder) old new → OnOk result (IsPlaced temp own bytes old.now.folder new.now.folder) → Places target bytes old new result
+    ChangesFiles (IsPlacing temp own bytes old.now.directory) old new → OnOk result (IsPlaced temp own bytes old.now.directory new.now.directory) → Places target bytes old new result
 placed_under temp own target bytes old new result temp_is own_is changes placed = record {
-  changes = subst (λ (t : List ℕ). ChangesFiles (IsPlacing t target bytes old.now.folder) old new) temp_is
-      (subst (λ (o : List ℕ). ChangesFiles (IsPlacing temp o bytes old.now.folder) old new) own_is changes);
-  placed = subst (λ (t : List ℕ). OnOk result (IsPlaced t target bytes old.now.folder new.now.folder)) temp_is
-      (subst (λ (o : List ℕ). OnOk result (IsPlaced temp o bytes old.now.folder new.now.folder)) own_is placed);
+  changes = subst (λ (t : List ℕ). ChangesFiles (IsPlacing t target bytes old.now.directory) old new) temp_is
+      (subst (λ (o : List ℕ). ChangesFiles (IsPlacing temp o bytes old.now.directory) old new) own_is changes);
+  placed = subst (λ (t : List ℕ). OnOk result (IsPlaced t target bytes old.now.directory new.now.directory)) temp_is
+      (subst (λ (o : List ℕ). OnOk result (IsPlaced temp o bytes old.now.directory new.now.directory)) own_is placed);
 }
 
 -- A notice is placed.
-module _ (of : Mailing) (notes new_ones : List Note) (number : ℕ) (script : List ℕ) (old new : World) (ready : HoldsNotesAlone notes old.now.folder)
-    (changes : ChangesFiles (IsPlacing mail_temp (notice_file number) script old.now.folder) old new) where
-  holds_still : (image : Files) → IsPlacing mail_temp (notice_file number) script old.now.folder image → HoldsNotes (map.get image mail_file) notes
+module _ (of : Mailing) (notes new_ones : List Note) (number : ℕ) (script : List ℕ) (old new : World) (ready : HoldsNotesAlone notes old.now.directory)
+    (changes : ChangesFiles (IsPlacing mail_temp (notice_file number) script old.now.directory) old new) where
+  holds_still : (image : Files) → IsPlacing mail_temp (notice_file number) script old.now.directory image → HoldsNotes (map.get image mail_file) notes
   holds_still image is = subst (λ held. HoldsNotes held notes) (sym (is.alone.others mail_file (notes_elsewhere number))) (ready.holds is.alone.from is.alone.was)
 
-  alone_still : (image : Files) → IsPlacing mail_temp (notice_file number) script old.now.folder image → LeavesOthers IsMailName old.now.folder image
-  alone_still image is = alone_of (notice_file number) (inr (inr (number, refl))) old.now.folder image is.alone
+  alone_still : (image : Files) → IsPlacing mail_temp (notice_file number) script old.now.directory image → LeavesOthers IsMailName old.now.directory image
+  alone_still image is = alone_of (notice_file number) (inr (inr (number, refl))) old.now.directory image is.alone
 
-  along_still : (image : Files) (handed : List Handed) → IsPlacing mail_temp (notice_file number) script old.now.folder image × (handed ≡ old.now.handed) →
+  along_still : (image : Files) (handed : List Handed) → IsPlacing mail_temp (notice_file number) script old.now.directory image × (handed ≡ old.now.handed) →
       IsAlongNotes of notes new_ones old.now image handed
   along_still image handed is =
       subst (IsAlongNotes of notes new_ones old.now image) (sym is.1) (along_none of notes new_ones old.now image (alone_still image is.0) (holds_still image is.0))
@@ -113,9 +113,9 @@ module _ (of : Mailing) (notes new_ones : List Note) (number : ℕ) (script : Li
     asked = changes.asked ∙ sym (append-nil old.asked);
   }
 
-pub notice_made : (of : Mailing) (notes : List Note) (number : ℕ) (script : List ℕ) (old new : World) → HoldsNotesAlone notes old.now.folder →
-    ChangesFiles (IsPlacing mail_temp (notice_file number) script old.now.folder) old new →
-    IsPlaced mail_temp (notice_file number) script old.now.folder new.now.folder → AreNotesMade of notes [] [] [] old new
+pub notice_made : (of : Mailing) (notes : List Note) (number : ℕ) (script : List ℕ) (old new : World) → HoldsNotesAlone notes old.now.directory →
+    ChangesFiles (IsPlacing mail_temp (notice_file number) script old.now.directory) old new →
+    IsPlaced mail_temp (notice_file number) script old.now.directory new.now.directory → AreNotesMade of notes [] [] [] old new
 notice_made of notes number script old new ready changes placed =
     let stopped = notice_stopped of notes [] number script old new ready changes in
     record {
@@ -132,14 +132,14 @@ notice_made of notes number script old new ready changes placed =
     }
 
 -- Notes are placed, all at once.
-module _ (of : Mailing) (notes new_ones : List Note) (text : List ℕ) (old new : World) (ready : HoldsNotesAlone notes old.now.folder)
+module _ (of : Mailing) (notes new_ones : List Note) (text : List ℕ) (old new : World) (ready : HoldsNotesAlone notes old.now.directory)
     (text_is : text ≡ notes_text (notes ++ new_ones))
-    (by_now : (image : Files) → IsPlacing mail_temp mail_file text old.now.folder image → SendsNoticesByNow of new_ones image [])
-    (changes : ChangesFiles (IsPlacing mail_temp mail_file text old.now.folder) old new) where
-  alone_placing : (image : Files) → IsPlacing mail_temp mail_file text old.now.folder image → LeavesOthers IsMailName old.now.folder image
-  alone_placing image is = alone_of mail_file (inl refl) old.now.folder image is.alone
+    (by_now : (image : Files) → IsPlacing mail_temp mail_file text old.now.directory image → SendsNoticesByNow of new_ones image [])
+    (changes : ChangesFiles (IsPlacing mail_temp mail_file text old.now.directory) old new) where
+  alone_placing : (image : Files) → IsPlacing mail_temp mail_file text old.now.directory image → LeavesOthers IsMailName old.now.directory image
+  alone_placing image is = alone_of mail_file (inl refl) old.now.directory image is.alone
 
-  along_placing : (image : Files) (handed : List Handed) → IsPlacing mail_temp mail_file text old.now.folder image × (handed ≡ old.now.handed) →
+  along_placing : (image : Files) (handed : List Handed) → IsPlacing mail_temp mail_file text old.now.directory image × (handed ≡ old.now.handed) →
       IsAlongNotes of notes new_ones old.now image handed
   along_placing image handed is = elim is.0.placed [
     | inl same ↦ subst (IsAlongNotes of notes new_ones old.now image) (sym is.1)
@@ -152,7 +152,7 @@ module _ (of : Mailing) (notes new_ones : List Note) (text : List ℕ) (old new 
   pub leaves_placing : LeavesOnly (IsAlongNotes of notes new_ones old.now) old new
   leaves_placing = leaves_weaker _ _ old new along_placing changes.leaves
 
-  pub alone_end : (image : Files) → IsImage new.now.folder image → LeavesOthers IsMailName old.now.folder image
+  pub alone_end : (image : Files) → IsImage new.now.directory image → LeavesOthers IsMailName old.now.directory image
   alone_end image is = alone_placing image (placing_end mail_file text old new changes image is)
 
   pub notes_stopped : AreNotesStopped of notes [] new_ones [] [] old new
@@ -164,13 +164,13 @@ module _ (of : Mailing) (notes new_ones : List Note) (text : List ℕ) (old new 
     asked = changes.asked ∙ sym (append-nil old.asked);
   }
 
-  pub ready_placed : IsPlaced mail_temp mail_file text old.now.folder new.now.folder → HoldsNotesAlone (notes ++ new_ones) new.now.folder
+  pub ready_placed : IsPlaced mail_temp mail_file text old.now.directory new.now.directory → HoldsNotesAlone (notes ++ new_ones) new.now.directory
   ready_placed placed = record {
     holds = λ image is. subst (λ held. HoldsNotes held (notes ++ new_ones)) (sym (placed.placed image is)) text_is;
     no_temp = placed.no_temp;
   }
 
-  pub notes_made : IsPlaced mail_temp mail_file text old.now.folder new.now.folder → SendsNotices of new_ones [] → AreNotesMade of notes new_ones [] [] old new
+  pub notes_made : IsPlaced mail_temp mail_file text old.now.directory new.now.directory → SendsNotices of new_ones [] → AreNotesMade of notes new_ones [] [] old new
   notes_made placed hands = record {
     leaves = leaves_placing;
     ready = ready_placed placed;

@@ -1,4 +1,4 @@
--- What is due is noted and handed over, one after another.
+-- What is due is noted and sent, one after another.
 use Rattle.std.proofs.Common.{◌≡◌, ◌∙◌, ◌<◌, ◌+◌, ℕ, Bool, true, List, [], ◌∷◌, ◌++◌, append_assoc, append-nil, drop, filter, get_or, length, map, take, refl, sym, ap, subst, inl, arith}
 use Rattle.std.specs.Prelude.{IfOk, IsErrAnd, Option, None, Some, Result, Ok, Err, is_some, option_to_list}
 use Rattle.std.proofs.lemmas.List.{map-append, take-append-drop, take_more}
@@ -7,10 +7,10 @@ use Rattle.host_calls.specs.declared.child.Child.{Child}
 use Rattle.host_calls.specs.declared.child.Handed.{Handed}
 use Rattle.host_calls.specs.declared.fault.HostFault.{HostFault}
 use Rattle.host_calls.specs.declared.fault.HostFault.TheVariants.{Failed, Memory}
-use Rattle.host_calls.specs.Folder.{IsInNoImage}
+use Rattle.host_calls.specs.Directory.{IsInNoImage}
 use Rattle.host_calls.specs.Session.{CallsInside, IsInside, Session}
 use Rattle.host_calls.specs.World.{World}
-use Rattle.host_session.proofs.SessionLemmas.{counts_on, no_counts}
+use Rattle.host_calls.proofs.SessionLemmas.{counts_on, no_counts}
 use Rattle.daemon_turn.specs.declared.kid.Kid.{Kid}
 use Rattle.daemon_turn.specs.Kids.{started_numbers}
 use Rattle.listing_text.specs.Lines.{turn_text}
@@ -28,8 +28,8 @@ use Rattle.mail_notes.proofs.TextLemmas.{notes_text-push}
 use Rattle.mail_session.specs.declared.due.NoticeDue.{NoticeDue}
 use Rattle.mail_session.specs.declared.due.NoticeDue.TheVariants.{Drop, Send}
 use Rattle.mail_session.specs.Dues.{AreDue, note_of, notes_of, sent_numbers}
-use Rattle.mail_session.specs.Posting.{SendsPart, MailPart, MailPartEnds, Posts, kids_of}
-use Rattle.mail_session.specs.inside.Sending.{Places, Sends}
+use Rattle.mail_session.specs.DueNotices.{SendsPart, MailPart, MailPartEnds, Posts, kids_of}
+use Rattle.mail_session.specs.inside.SentNotice.{Places, Sends}
 use Rattle.mail_session.specs.NoticeFiles.{ReadsBeside}
 use Rattle.mail_session.proofs.ReadLemmas.{reads_both, reads_none, reads_placed}
 use Rattle.mail_session.proofs.NotingLemmas.{notes_made, notes_stopped}
@@ -40,7 +40,7 @@ abbrev no_part : MailPart
 no_part = record { made = []; next = []; added = [] }
 
 pub posts_none : (program : List ℕ) (tells : Bool) (session : Session) (world : World) (was : List ℕ) (kids : List Kid) (sent : List ℕ) → IsInside session →
-    (tells ≡ true → IsInNoImage world.now.folder mail_temp) → Posts program tells session session world world [] was was kids kids sent sent (Ok tt)
+    (tells ≡ true → IsInNoImage world.now.directory mail_temp) → Posts program tells session session world world [] was was kids kids sent sent (Ok tt)
 posts_none program tells session world was kids sent inside no_temp = record {
   part = no_part;
   inside = inside;
@@ -57,14 +57,14 @@ posts_none program tells session world was kids sent inside no_temp = record {
   files = λ known of notes same ready text due. record { given = []; numbered = refl; ends = no_notes_are_made of notes world ready };
 }
 
--- the same after room was had for a kid and a number
-pub posts_with_room : (program : List ℕ) (tells : Bool) (before after : Session) (old new : World) (dues : List NoticeDue) (was is : List ℕ)
+-- the same after room was had for a child and a number
+pub posts_with_room : (program : List ℕ) (tells : Bool) (before after : Session) (old new : World) (due_notices : List NoticeDue) (was is : List ℕ)
     (kids roomy more : List Kid) (sent wide gone : List ℕ) (result : Result (Unit {0}) HostFault) → roomy ≡ kids → wide ≡ sent →
-    Posts program tells before after old new dues was is roomy more wide gone result →
-    Posts program tells before after old new dues was is kids more sent gone result
-posts_with_room program tells before after old new dues was is kids roomy more sent wide gone result kids_is sent_is posts =
-    subst (λ (l : List Kid). Posts program tells before after old new dues was is l more sent gone result) kids_is
-    (subst (λ (l : List ℕ). Posts program tells before after old new dues was is roomy more l gone result) sent_is posts)
+    Posts program tells before after old new due_notices was is roomy more wide gone result →
+    Posts program tells before after old new due_notices was is kids more sent gone result
+posts_with_room program tells before after old new due_notices was is kids roomy more sent wide gone result kids_is sent_is posts =
+    subst (λ (l : List Kid). Posts program tells before after old new due_notices was is l more sent gone result) kids_is
+    (subst (λ (l : List ℕ). Posts program tells before after old new due_notices was is roomy more l gone result) sent_is posts)
 
 -- Lists of two parts.
 
@@ -99,10 +99,10 @@ ends_then of notes first later given more start between end (Ok done) before aft
 ends_then of notes first later given more start between end (Err fault) before after =
     notes_are_stopped_after of notes first.made later.made later.next given more [] [] start between end before after
 
-all_then : (first later : List Note) (dues others : List NoticeDue) (result : Result (Unit {0}) HostFault) → first ≡ notes_of dues → IfOk result (λ done. later ≡ notes_of others) →
-    IfOk result (λ done. first ++ later ≡ notes_of (dues ++ others))
-all_then first later dues others (Ok done) before after = ap (λ (l : List Note). l ++ later) before ∙ ap (λ (l : List Note). notes_of dues ++ l) after ∙ sym (map-append note_of dues others)
-all_then first later dues others (Err fault) before after = tt
+all_then : (first later : List Note) (due_notices others : List NoticeDue) (result : Result (Unit {0}) HostFault) → first ≡ notes_of due_notices → IfOk result (λ done. later ≡ notes_of others) →
+    IfOk result (λ done. first ++ later ≡ notes_of (due_notices ++ others))
+all_then first later due_notices others (Ok done) before after = ap (λ (l : List Note). l ++ later) before ∙ ap (λ (l : List Note). notes_of due_notices ++ l) after ∙ sym (map-append note_of due_notices others)
+all_then first later due_notices others (Err fault) before after = tt
 
 text_then : (first later : List Note) (was middle is : List ℕ) (result : Result (Unit {0}) HostFault) → middle ≡ was ++ notes_text first → IfOk result (λ done. is ≡ middle ++ notes_text later) →
     IfOk result (λ done. is ≡ was ++ notes_text (first ++ later))
@@ -111,12 +111,12 @@ text_then first later was middle is (Ok done) before after =
 text_then first later was middle is (Err fault) before after = tt
 
 -- What is due after what was made.
-pub posts_then : (program : List ℕ) (tells : Bool) (before between after : Session) (start middle end : World) (dues others : List NoticeDue) (was text is : List ℕ)
+pub posts_then : (program : List ℕ) (tells : Bool) (before between after : Session) (start middle end : World) (due_notices others : List NoticeDue) (was text is : List ℕ)
     (kids more last : List Kid) (sent gone over : List ℕ) (result : Result (Unit {0}) HostFault) →
-    Posts program tells before between start middle dues was text kids more sent gone (Ok tt) →
+    Posts program tells before between start middle due_notices was text kids more sent gone (Ok tt) →
     Posts program tells between after middle end others text is more last gone over result →
-    Posts program tells before after start end (dues ++ others) was is kids last sent over result
-posts_then program tells before between after start middle end dues others was text is kids more last sent gone over result one other = record {
+    Posts program tells before after start end (due_notices ++ others) was is kids last sent over result
+posts_then program tells before between after start middle end due_notices others was text is kids more last sent gone over result one other = record {
   part = record { made = one.part.made ++ other.part.made; next = other.part.next; added = one.part.added ++ other.part.added };
   inside = other.inside;
   counts = counts_on before between after one.counts other.counts;
@@ -129,11 +129,11 @@ posts_then program tells before between after start middle end dues others was t
       ∙ ap (λ (l : List Child). before.children ++ l) (sym (map-append (λ (kid : Kid). kid.child) one.part.added other.part.added));
   prefix = (
     other.prefix.0,
-    map-append note_of dues others ∙ ap (λ (l : List Note). l ++ notes_of others) (sym one.all) ∙ ap (λ (l : List Note). one.part.made ++ l) other.prefix.1
+    map-append note_of due_notices others ∙ ap (λ (l : List Note). l ++ notes_of others) (sym one.all) ∙ ap (λ (l : List Note). one.part.made ++ l) other.prefix.1
         ∙ sym (append_assoc one.part.made (other.part.made ++ other.part.next) other.prefix.0)
         ∙ ap (λ (l : List Note). l ++ other.prefix.0) (sym (append_assoc one.part.made other.part.made other.part.next)),
   );
-  all = all_then one.part.made other.part.made dues others result one.all other.all;
+  all = all_then one.part.made other.part.made due_notices others result one.all other.all;
   text = text_then one.part.made other.part.made was text is result one.text other.text;
   kids_are = other.kids_are ∙ ap (λ (l : List Kid). l ++ other.part.added) one.kids_are ∙ append_assoc kids one.part.added other.part.added;
   sent_are = other.sent_are ∙ ap (λ (l : List ℕ). l ++ sent_numbers other.part.made) one.sent_are ∙ append_assoc sent (sent_numbers one.part.made) (sent_numbers other.part.made)
@@ -142,11 +142,11 @@ posts_then program tells before between after start middle end dues others was t
   reads = λ known. subst (λ (l : List ℕ). IfOk result (λ done. ReadsBeside l start end)) (sym (sent_join one.part.made other.part.made))
       (reads_both (sent_numbers one.part.made) (sent_numbers other.part.made) start middle end result (one.reads known) (other.reads known));
   files = λ known of notes same ready text_is due.
-      let first : SendsPart of notes one.part start middle (Ok tt) = one.files known of notes same ready text_is (due_first of dues others due) in
+      let first : SendsPart of notes one.part start middle (Ok tt) = one.files known of notes same ready text_is (due_first of due_notices others due) in
       let made : AreNotesMade of notes one.part.made first.given [] start middle = first.ends in
       let text_now : text ≡ notes_text (notes ++ one.part.made) = one.text ∙ ap (λ t. t ++ notes_text one.part.made) text_is ∙ sym (lines_join notes one.part.made) in
       let second : SendsPart of (notes ++ one.part.made) other.part middle end result =
-      other.files known of (notes ++ one.part.made) same made.ready text_now (due_later of dues others due) in
+      other.files known of (notes ++ one.part.made) same made.ready text_now (due_later of due_notices others due) in
       record {
         given = first.given ++ second.given;
         numbered = started_join first.given second.given ∙ ap (λ (l : List ℕ). l ++ started_numbers second.given) first.numbered
@@ -157,10 +157,10 @@ posts_then program tells before between after start middle end dues others was t
 }
 
 -- what was stopped at some of what is due is stopped at all of it
-pub posts_longer : (program : List ℕ) (tells : Bool) (before after : Session) (old new : World) (dues others : List NoticeDue) (was is : List ℕ) (kids more : List Kid)
-    (sent gone : List ℕ) (fault : HostFault) → Posts program tells before after old new dues was is kids more sent gone (Err fault) →
-    Posts program tells before after old new (dues ++ others) was is kids more sent gone (Err fault)
-posts_longer program tells before after old new dues others was is kids more sent gone fault posts = record {
+pub posts_longer : (program : List ℕ) (tells : Bool) (before after : Session) (old new : World) (due_notices others : List NoticeDue) (was is : List ℕ) (kids more : List Kid)
+    (sent gone : List ℕ) (fault : HostFault) → Posts program tells before after old new due_notices was is kids more sent gone (Err fault) →
+    Posts program tells before after old new (due_notices ++ others) was is kids more sent gone (Err fault)
+posts_longer program tells before after old new due_notices others was is kids more sent gone fault posts = record {
   part = posts.part;
   inside = posts.inside;
   counts = posts.counts;
@@ -168,7 +168,7 @@ posts_longer program tells before after old new dues others was is kids more sen
   children = posts.children;
   prefix = (
     posts.prefix.0 ++ notes_of others,
-    map-append note_of dues others ∙ ap (λ (l : List Note). l ++ notes_of others) posts.prefix.1
+    map-append note_of due_notices others ∙ ap (λ (l : List Note). l ++ notes_of others) posts.prefix.1
         ∙ append_assoc (posts.part.made ++ posts.part.next) posts.prefix.0 (notes_of others),
   );
   all = tt;
@@ -178,17 +178,17 @@ posts_longer program tells before after old new dues others was is kids more sen
   no_temp = λ known. tt;
   reads = λ known. tt;
   files = λ known of notes same ready text_is due.
-      let gives = posts.files known of notes same ready text_is (due_first of dues others due) in
+      let gives = posts.files known of notes same ready text_is (due_first of due_notices others due) in
       record { given = gives.given; numbered = gives.numbered; ends = gives.ends };
 }
 
 -- a fault that is handed on
-pub posts_at : (program : List ℕ) (tells : Bool) (before after : Session) (old new : World) (dues : List NoticeDue) (was is : List ℕ) (kids more : List Kid)
+pub posts_at : (program : List ℕ) (tells : Bool) (before after : Session) (old new : World) (due_notices : List NoticeDue) (was is : List ℕ) (kids more : List Kid)
     (sent gone : List ℕ) (fault : HostFault) (result : Result (Unit {0}) HostFault) → IsErrAnd result (λ other. other ≡ fault) →
-    Posts program tells before after old new dues was is kids more sent gone (Err fault) → Posts program tells before after old new dues was is kids more sent gone result
-posts_at program tells before after old new dues was is kids more sent gone fault (Ok done) same posts = absurd same
-posts_at program tells before after old new dues was is kids more sent gone fault (Err other) same posts =
-    subst (λ (of : HostFault). Posts program tells before after old new dues was is kids more sent gone (Err of)) (sym same) posts
+    Posts program tells before after old new due_notices was is kids more sent gone (Err fault) → Posts program tells before after old new due_notices was is kids more sent gone result
+posts_at program tells before after old new due_notices was is kids more sent gone fault (Ok done) same posts = absurd same
+posts_at program tells before after old new due_notices was is kids more sent gone fault (Err other) same posts =
+    subst (λ (of : HostFault). Posts program tells before after old new due_notices was is kids more sent gone (Err of)) (sym same) posts
 
 -- One thing that is due.
 module _ (program : List ℕ) (tells : Bool) (before : Session) (old : World) (due : NoticeDue) (was is : List ℕ) (kids : List Kid) (sent : List ℕ) (inside : IsInside before) where
@@ -357,9 +357,9 @@ module _ (program : List ℕ) (tells : Bool) (before after : Session) (old new :
   }
 
 -- One thing more of what is due.
-pub take_one : (dues : List NoticeDue) (place : ℕ) (due : NoticeDue) → place < length dues → due ≡ get_or dues place due → take (place + 1) dues ≡ take place dues ++ due ∷ []
-take_one dues place due inside is = take_more dues place due inside ∙ ap (λ (one : NoticeDue). take place dues ++ one ∷ []) (sym is)
+pub take_one : (due_notices : List NoticeDue) (place : ℕ) (due : NoticeDue) → place < length due_notices → due ≡ get_or due_notices place due → take (place + 1) due_notices ≡ take place due_notices ++ due ∷ []
+take_one due_notices place due inside is = take_more due_notices place due inside ∙ ap (λ (one : NoticeDue). take place due_notices ++ one ∷ []) (sym is)
 
-pub all_of : (dues : List NoticeDue) (place : ℕ) (due : NoticeDue) → place < length dues → due ≡ get_or dues place due → (take place dues ++ due ∷ []) ++ drop (place + 1) dues ≡ dues
-all_of dues place due inside is =
-    ap (λ (l : List NoticeDue). l ++ drop (place + 1) dues) (sym (take_one dues place due inside is)) ∙ take-append-drop (place + 1) dues
+pub all_of : (due_notices : List NoticeDue) (place : ℕ) (due : NoticeDue) → place < length due_notices → due ≡ get_or due_notices place due → (take place due_notices ++ due ∷ []) ++ drop (place + 1) due_notices ≡ due_notices
+all_of due_notices place due inside is =
+    ap (λ (l : List NoticeDue). l ++ drop (place + 1) due_notices) (sym (take_one due_notices place due inside is)) ∙ take-append-drop (place + 1) due_notices

@@ -7,13 +7,13 @@ use Rattle.std.proofs.lemmas.Bool.{or_parts}
 use Rattle.std.proofs.lemmas.List.Folds.{list_any-append}
 use Rattle.host_calls.specs.declared.child.Child.{Child}
 use Rattle.host_calls.specs.declared.fault.HostFault.{HostFault}
-use Rattle.host_calls.specs.Folder.{reading_of}
+use Rattle.host_calls.specs.Directory.{reading_of}
 use Rattle.host_calls.specs.World.{World, reading}
 use Rattle.spool_shows.proofs.Membership.{contained, has_contained, has_either, one_passes}
-use Rattle.whole_file.specs.Placing.{IsPlaced}
+use Rattle.whole_file.specs.Placement.{IsPlaced}
 use Rattle.mail_notes.specs.Names.{mail_file, mail_temp, notice_file}
 use Rattle.mail_session.specs.NoticeFiles.{ReadsBeside, is_notice_of}
-use Rattle.mail_session.specs.inside.Sending.{IsHandingOver, Places}
+use Rattle.mail_session.specs.inside.SentNotice.{IsHandingOver, Places}
 use Rattle.mail_session.proofs.NotingLemmas.{notice_apart}
 
 -- the file of notes is no notice
@@ -25,7 +25,7 @@ pub reads_none : (world : World) → ReadsBeside [] world world
 reads_none world = record { placed = λ number among. absurd (has_contained [] number among); stay = λ name temp notes none. refl }
 
 -- the notes were placed
-pub reads_placed : (text : List ℕ) (old new : World) → IsPlaced mail_temp mail_file text old.now.folder new.now.folder → ReadsBeside [] old new
+pub reads_placed : (text : List ℕ) (old new : World) → IsPlaced mail_temp mail_file text old.now.directory new.now.directory → ReadsBeside [] old new
 reads_placed text old new placed = record {
   placed = λ number among. absurd (has_contained [] number among);
   stay = λ name temp notes none. placed.others name (λ either. elim either [
@@ -56,11 +56,11 @@ reads_sent number script text old middle new first then held = record {
       ]);
 }
 
--- the files read as before where the folder stays
-pub reads_on : (numbers : List ℕ) (old middle new : World) → new.now.folder ≡ middle.now.folder → ReadsBeside numbers old middle → ReadsBeside numbers old new
-reads_on numbers old middle new folder reads = record {
-  placed = λ number among. subst (λ at. IsSome (finite.get (reading_of at) (notice_file number))) (sym folder) (reads.placed number among);
-  stay = λ name temp notes none. ap (λ at. finite.get (reading_of at) name) folder ∙ reads.stay name temp notes none;
+-- the files read as before where the directory stays
+pub reads_on : (numbers : List ℕ) (old middle new : World) → new.now.directory ≡ middle.now.directory → ReadsBeside numbers old middle → ReadsBeside numbers old new
+reads_on numbers old middle new directory reads = record {
+  placed = λ number among. subst (λ at. IsSome (finite.get (reading_of at) (notice_file number))) (sym directory) (reads.placed number among);
+  stay = λ name temp notes none. ap (λ at. finite.get (reading_of at) name) directory ∙ reads.stay name temp notes none;
 }
 
 -- Notices after others.
@@ -89,7 +89,7 @@ module _ (first later : List ℕ) (start middle end : World) (one : ReadsBeside 
 -- by the answer of a sending
 pub reads_after : (number : ℕ) (result : Result (Option Child) HostFault) (old middle new : World) → ReadsBeside (number ∷ []) old middle → IsHandingOver number middle new result →
     IfOk result (λ child. ReadsBeside (number ∷ []) old new)
-reads_after number (Ok child) old middle new reads over = reads_on (number ∷ []) old middle new over.folder reads
+reads_after number (Ok child) old middle new reads over = reads_on (number ∷ []) old middle new over.directory reads
 reads_after number (Err fault) old middle new reads over = tt
 
 -- by that of several

@@ -8,14 +8,14 @@ use Rattle.host_calls.specs.declared.fault.HostFault.{HostFault}
 use Rattle.host_calls.specs.declared.fault.HostFault.TheVariants.{Failed, Memory}
 use Rattle.host_calls.specs.declared.fault.StartFault.{StartFault}
 use Rattle.host_calls.specs.declared.fault.StartFault.TheVariants.{Failed as NoStart, Memory as NoMemory}
-use Rattle.host_calls.specs.Folder.{Files, Folder, IsImage, IsInNoImage}
+use Rattle.host_calls.specs.Directory.{Files, Directory, IsImage, IsInNoImage}
 use Rattle.host_calls.specs.Session.{CallsInside, Session, Starts}
 use Rattle.host_calls.specs.World.{HandsOver, LeavesOnly, StartCall, World, reading}
-use Rattle.host_calls.proofs.FolderLemmas.{reading_is_image}
+use Rattle.host_calls.proofs.DirectoryLemmas.{reading_is_image}
 use Rattle.host_calls.proofs.WorldLemmas.{leaves_then, leaves_weaker}
-use Rattle.host_session.proofs.SessionLemmas.{counts_on}
+use Rattle.host_calls.proofs.SessionLemmas.{counts_on}
 use Rattle.whole_file.specs.Others.{ChangesFiles, LeavesOthers}
-use Rattle.whole_file.specs.Placing.{IsPlaced, IsPlacing}
+use Rattle.whole_file.specs.Placement.{IsPlaced, IsPlacing}
 use Rattle.mail_notes.specs.declared.note.Note.{Note}
 use Rattle.mail_notes.specs.declared.note.Note.TheVariants.{Sent}
 use Rattle.mail_notes.specs.Hands.{SendsNotices, SendsNoticesByNow, IsHandedFor, IsNoticeOf, Mailing, notice_nice}
@@ -23,7 +23,7 @@ use Rattle.mail_notes.specs.Lines.{notes_text}
 use Rattle.mail_notes.specs.Names.{IsMailName, mail_file, mail_temp, notice_file}
 use Rattle.mail_notes.specs.Runs.{AreNotesMade, AreNotesStopped, IsAlongNotes, HoldsNotesAlone}
 use Rattle.mail_notes.proofs.RunLemmas.{notes_are_made_after, notes_are_stopped_after}
-use Rattle.mail_session.specs.inside.Sending.{HandsNoticeOver, IsHandingOver, Places, Sends, SendingEnds, added_by_notice}
+use Rattle.mail_session.specs.inside.SentNotice.{HandsNoticeOver, IsHandingOver, Places, Sends, SendingEnds, added_by_notice}
 use Rattle.mail_session.proofs.ReadLemmas.{reads_after, reads_sent}
 use Rattle.mail_session.proofs.NotingLemmas.{alone_end, along_all, leaves_placing, notes_stopped, notice_elsewhere, notice_made, notice_stopped, placing_end, ready_placed}
 
@@ -49,7 +49,7 @@ child_handed before after tells old new number child starts call = record {
   counts = starts.counts;
   children = starts.children;
   no_fault = no_fault (Some child) Failed;
-  files = λ known. record { outcome = (call known).outcome; folder = (call known).folder; asked = (call known).asked; leaves = (call known).leaves };
+  files = λ known. record { outcome = (call known).outcome; directory = (call known).directory; asked = (call known).asked; leaves = (call known).leaves };
 }
 
 pub none_handed : (before after : Session) (tells : Bool) (old new : World) (number : ℕ) → Starts {E = StartFault} before after (Err NoStart) →
@@ -59,7 +59,7 @@ none_handed before after tells old new number starts call = record {
   counts = starts.counts;
   children = starts.children;
   no_fault = no_fault None Failed;
-  files = λ known. record { outcome = (call known).outcome; folder = (call known).folder; asked = (call known).asked; leaves = (call known).leaves };
+  files = λ known. record { outcome = (call known).outcome; directory = (call known).directory; asked = (call known).asked; leaves = (call known).leaves };
 }
 
 pub memory_wanting : (before after : Session) (tells : Bool) (old new : World) (number : ℕ) → Starts {E = StartFault} before after (Err NoMemory) →
@@ -69,7 +69,7 @@ memory_wanting before after tells old new number starts call = record {
   counts = starts.counts;
   children = starts.children;
   no_fault = not_memory;
-  files = λ known. record { outcome = (call known).outcome; folder = (call known).folder; asked = (call known).asked; leaves = (call known).leaves };
+  files = λ known. record { outcome = (call known).outcome; directory = (call known).directory; asked = (call known).asked; leaves = (call known).leaves };
 }
 
 -- a fault that is handed on
@@ -83,13 +83,13 @@ sends_at tells before after old new number script text fault (Err other) is send
 pub notice_held : (number : ℕ) (script text : List ℕ) (old middle new : World) → Places (notice_file number) script old middle (Ok tt) → Places mail_file text middle new (Ok tt) →
     IsSome (map.get (reading new) (notice_file number))
 notice_held number script text old middle new first then =
-    subst IsSome (sym (then.placed.others (notice_file number) (notice_elsewhere number) ∙ first.placed.placed (reading middle) (reading_is_image middle.now.folder))) refl
+    subst IsSome (sym (then.placed.others (notice_file number) (notice_elsewhere number) ∙ first.placed.placed (reading middle) (reading_is_image middle.now.directory))) refl
 
--- the notes with the one that is being sent have handed over nothing of it, and its notice is there, as before
-lacking : (of : Mailing) (number : ℕ) (script text : List ℕ) (folder : Folder) → IsNoticeOf of number script →
-    ((from : Files) → IsImage folder from → map.get from (notice_file number) ≡ Some script) → (image : Files) → IsPlacing mail_temp mail_file text folder image →
+-- the notes with the one that is being sent have sent nothing of it, and its notice is there, as before
+lacking : (of : Mailing) (number : ℕ) (script text : List ℕ) (directory : Directory) → IsNoticeOf of number script →
+    ((from : Files) → IsImage directory from → map.get from (notice_file number) ≡ Some script) → (image : Files) → IsPlacing mail_temp mail_file text directory image →
     SendsNoticesByNow of (Sent number ∷ []) image []
-lacking of number script text folder notice held image is = inr (record {
+lacking of number script text directory notice held image is = inr (record {
   earlier = [];
   number = number;
   ends = refl;
@@ -101,32 +101,32 @@ lacking of number script text folder notice held image is = inr (record {
   hands = refl;
 })
 
--- After the note, the notice is handed over.
-module _ (of : Mailing) (notes : List Note) (number : ℕ) (script text : List ℕ) (old middle new : World) (ready : HoldsNotesAlone notes old.now.folder)
+-- After the note, the notice is sent.
+module _ (of : Mailing) (notes : List Note) (number : ℕ) (script text : List ℕ) (old middle new : World) (ready : HoldsNotesAlone notes old.now.directory)
     (text_is : text ≡ notes_text (notes ++ Sent number ∷ [])) (notice : IsNoticeOf of number script)
-    (held : (image : Files) → IsImage old.now.folder image → map.get image (notice_file number) ≡ Some script)
-    (changes : ChangesFiles (IsPlacing mail_temp mail_file text old.now.folder) old middle)
-    (placed : IsPlaced mail_temp mail_file text old.now.folder middle.now.folder) where
+    (held : (image : Files) → IsImage old.now.directory image → map.get image (notice_file number) ≡ Some script)
+    (changes : ChangesFiles (IsPlacing mail_temp mail_file text old.now.directory) old middle)
+    (placed : IsPlaced mail_temp mail_file text old.now.directory middle.now.directory) where
   -- what was read is the notice
   script_is : (read : List ℕ) → map.get (reading middle) (notice_file number) ≡ Some read → read ≡ script
-  script_is read is = let both : Some read ≡ Some script = sym is ∙ placed.others (notice_file number) (notice_elsewhere number) ∙ held (reading old) (reading_is_image old.now.folder) in cc
+  script_is read is = let both : Some read ≡ Some script = sym is ∙ placed.others (notice_file number) (notice_elsewhere number) ∙ held (reading old) (reading_is_image old.now.directory) in cc
 
-  lacking_now : (image : Files) → IsPlacing mail_temp mail_file text old.now.folder image → SendsNoticesByNow of (Sent number ∷ []) image []
-  lacking_now = lacking of number script text old.now.folder notice held
+  lacking_now : (image : Files) → IsPlacing mail_temp mail_file text old.now.directory image → SendsNoticesByNow of (Sent number ∷ []) image []
+  lacking_now = lacking of number script text old.now.directory notice held
 
-  ready_now : HoldsNotesAlone (notes ++ Sent number ∷ []) middle.now.folder
+  ready_now : HoldsNotesAlone (notes ++ Sent number ∷ []) middle.now.directory
   ready_now = ready_placed of notes (Sent number ∷ []) text old middle ready text_is lacking_now changes placed
 
-  alone_now : (image : Files) → IsImage middle.now.folder image → LeavesOthers IsMailName old.now.folder image
+  alone_now : (image : Files) → IsImage middle.now.directory image → LeavesOthers IsMailName old.now.directory image
   alone_now = alone_end of notes (Sent number ∷ []) text old middle ready text_is lacking_now changes
 
   leaves_now : LeavesOnly (IsAlongNotes of notes (Sent number ∷ []) old.now) old middle
   leaves_now = leaves_placing of notes (Sent number ∷ []) text old middle ready text_is lacking_now changes
 
-  -- where it was handed over
-  module _ (started : Bool) (over : HandsOver number (notice_file number) notice_nice started middle.now new.now) (folder : new.now.folder ≡ middle.now.folder)
+  -- where it was sent
+  module _ (started : Bool) (over : HandsOver number (notice_file number) notice_nice started middle.now new.now) (directory : new.now.directory ≡ middle.now.directory)
       (asked : new.asked ≡ middle.asked)
-      (leaves : LeavesOnly (λ image handed. IsImage middle.now.folder image × ((handed ≡ middle.now.handed) ⊎ (handed ≡ new.now.handed))) middle new) where
+      (leaves : LeavesOnly (λ image handed. IsImage middle.now.directory image × ((handed ≡ middle.now.handed) ⊎ (handed ≡ new.now.handed))) middle new) where
     one : Handed
     one = record { number = number; script = over.script; nice = notice_nice; started = started }
 
@@ -148,7 +148,7 @@ module _ (of : Mailing) (notes : List Note) (number : ℕ) (script text : List �
       refl,
     )
 
-    along_now : (image : Files) (handed : List Handed) → IsImage middle.now.folder image × ((handed ≡ middle.now.handed) ⊎ (handed ≡ new.now.handed)) →
+    along_now : (image : Files) (handed : List Handed) → IsImage middle.now.directory image × ((handed ≡ middle.now.handed) ⊎ (handed ≡ new.now.handed)) →
         IsAlongNotes of notes (Sent number ∷ []) old.now image handed
     along_now image handed is = elim is.1 [
       | inl not_yet ↦ along_all of notes (Sent number ∷ []) old.now image [] handed (alone_now image is.0) (ready_now.holds image is.0)
@@ -165,8 +165,8 @@ module _ (of : Mailing) (notes : List Note) (number : ℕ) (script text : List �
       record {
         leaves = leaves_then (IsAlongNotes of notes (Sent number ∷ []) old.now) old middle new leaves_now
             (leaves_weaker _ (IsAlongNotes of notes (Sent number ∷ []) old.now) middle new along_now leaves);
-        ready = subst (HoldsNotesAlone (notes ++ Sent number ∷ [])) (sym folder) ready_now;
-        alone = λ image is. alone_now image (subst (λ (at : Folder). IsImage at image) folder is);
+        ready = subst (HoldsNotesAlone (notes ++ Sent number ∷ [])) (sym directory) ready_now;
+        alone = λ image is. alone_now image (subst (λ (at : Directory). IsImage at image) directory is);
         handed = grown;
         hands = hands;
         asked = asked ∙ changes.asked ∙ sym (append-nil old.asked);
@@ -175,7 +175,7 @@ module _ (of : Mailing) (notes : List Note) (number : ℕ) (script text : List �
 
   -- by the answer of the host
   pub handing_ends : (result : Result (Option Child) HostFault) → IsHandingOver number middle new result → SendingEnds of notes number old new result
-  handing_ends (Ok child) over = sent_now (is_some child) over.outcome over.folder over.asked over.leaves
+  handing_ends (Ok child) over = sent_now (is_some child) over.outcome over.directory over.asked over.leaves
   handing_ends (Err fault) over =
       subst (AreNotesStopped of notes [] (Sent number ∷ []) [] [] old) (sym over.outcome)
       (notes_stopped of notes (Sent number ∷ []) text old middle ready text_is lacking_now changes)
@@ -188,10 +188,10 @@ ends_after of notes number start middle end (Ok child) before after =
 ends_after of notes number start middle end (Err fault) before after =
     notes_are_stopped_after of notes [] [] (Sent number ∷ []) [] [] [] [] start middle end before after
 
--- no file of mail is being made once the notice was handed over
-no_temp_after : {number : ℕ} (result : Result (Option Child) HostFault) (middle new : World) → IsInNoImage middle.now.folder mail_temp → IsHandingOver number middle new result →
-    IfOk result (λ child. IsInNoImage new.now.folder mail_temp)
-no_temp_after (Ok child) middle new none over = subst (λ (at : Folder). IsInNoImage at mail_temp) (sym over.folder) none
+-- no file of mail is being made once the notice was sent
+no_temp_after : {number : ℕ} (result : Result (Option Child) HostFault) (middle new : World) → IsInNoImage middle.now.directory mail_temp → IsHandingOver number middle new result →
+    IfOk result (λ child. IsInNoImage new.now.directory mail_temp)
+no_temp_after (Ok child) middle new none over = subst (λ (at : Directory). IsInNoImage at mail_temp) (sym over.directory) none
 no_temp_after (Err fault) middle new none over = tt
 
 -- The whole of it, by where it ends.
@@ -210,7 +210,7 @@ module _ (tells : Bool) (before : Session) (old : World) (number : ℕ) (script 
 
   module _ (between : Session) (middle : World) (first : CallsInside {T = Unit {0}} Failed before between (Ok tt))
       (places : tells ≡ true → Places (notice_file number) script old middle (Ok tt)) where
-    made_first : (known : tells ≡ true) (of : Mailing) (notes : List Note) → HoldsNotesAlone notes old.now.folder → AreNotesMade of notes [] [] [] old middle
+    made_first : (known : tells ≡ true) (of : Mailing) (notes : List Note) → HoldsNotesAlone notes old.now.directory → AreNotesMade of notes [] [] [] old middle
     made_first known of notes ready = notice_made of notes number script old middle ready (places known).changes (places known).placed
 
     text_after : (notes : List Note) → text ≡ notes_text (notes ++ Sent number ∷ []) → text ≡ notes_text ((notes ++ []) ++ Sent number ∷ [])
@@ -231,7 +231,7 @@ module _ (tells : Bool) (before : Session) (old : World) (number : ℕ) (script 
       files = λ known of notes ready text_is notice. let made = made_first known of notes ready in
           ends_after of notes number old middle new (Err fault) made
           (notes_stopped of (notes ++ []) (Sent number ∷ []) text middle new made.ready (text_after notes text_is)
-          (lacking of number script text middle.now.folder notice (places known).placed.placed) (then known).changes);
+          (lacking of number script text middle.now.directory notice (places known).placed.placed) (then known).changes);
     }
 
     pub sent_whole : (last after : Session) (noted new : World) (result : Result (Option Child) HostFault) → CallsInside {T = Unit {0}} Failed between last (Ok tt) →

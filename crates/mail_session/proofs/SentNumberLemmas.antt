@@ -1,4 +1,4 @@
--- The numbers of notices that are sent: each stands once, and fits eight digits.
+-- The numbers of notices that are sent: each occurs once, and fits eight digits.
 use Rattle.std.proofs.Common.{◌≡◌, ◌∙◌, ◌++◌, ◌<◌, ℕ, Bool, true, false, List, Option, Some, None, [], ◌∷◌, append_assoc, drop, map, refl, sym, ap, subst, inl, inr, arith}
 use Rattle.std.specs.Prelude.{◌==◌, AllPairs, Contains, nat_eq, not}
 use Rattle.std.specs.Cmp.Lexicographic.{bytes_decides, pointwise}
@@ -25,11 +25,11 @@ use Rattle.mail_session.specs.declared.due.NoticeDue.{NoticeDue}
 use Rattle.mail_session.specs.declared.due.NoticeDue.TheVariants.{Drop, Send}
 use Rattle.mail_session.specs.declared.plan.MailPlan.{MailPlan}
 use Rattle.mail_session.specs.Dues.{notes_of, sent_numbers}
-use Rattle.mail_session.specs.Leaving.{GivesNotes}
+use Rattle.mail_session.specs.SessionOutcome.{GivesNotes}
 use Rattle.mail_session.specs.News.{noting_of}
 use Rattle.mail_session.specs.NoticeFiles.{is_notice_of}
 use Rattle.mail_session.specs.Steps.{AreDuesOf, due_of_entry}
-use Rattle.mail_session.specs.inside.Working.{steps_by}
+use Rattle.mail_session.specs.inside.SessionWork.{steps_by}
 use Rattle.mail_session.proofs.PostLemmas.{sent_join}
 
 pub above : (number : ℕ) (others : List ℕ) → ((other : ℕ) → Has others other → number < other) → list_any (λ other. other == number) others ≡ false
@@ -55,16 +55,16 @@ number_due job (Some (Done (Finished ending))) due same = sym (ap number_or same
 number_due job (Some (Done Interrupted)) due same = sym (ap number_or same)
 number_due job (Some (Done Removed)) due same = sym (ap number_or same)
 
-pub has_sent : (dues : List NoticeDue) (number : ℕ) → Has (sent_numbers (notes_of dues)) number → (due : NoticeDue) × Has dues due × (due_number due ≡ number)
+pub has_sent : (due_notices : List NoticeDue) (number : ℕ) → Has (sent_numbers (notes_of due_notices)) number → (due : NoticeDue) × Has due_notices due × (due_number due ≡ number)
 has_sent [] number has = absurd has
 has_sent (Send job end ∷ later) number (inl same) = (Send job end, inl refl, same)
 has_sent (Send job end ∷ later) number (inr has) = let from = has_sent later number has in (from.0, inr from.1, from.2)
 has_sent (Drop other ∷ later) number has = let from = has_sent later number has in (from.0, inr from.1, from.2)
 
 abbrev pub AreDuesAscending : List NoticeDue → Type 0
-AreDuesAscending dues = AllPairs (λ one other. due_number one < due_number other) dues
+AreDuesAscending due_notices = AllPairs (λ one other. due_number one < due_number other) due_notices
 
-pub distinct_sent : (dues : List NoticeDue) → AreDuesAscending dues → are_distinct (sent_numbers (notes_of dues)) ≡ true
+pub distinct_sent : (due_notices : List NoticeDue) → AreDuesAscending due_notices → are_distinct (sent_numbers (notes_of due_notices)) ≡ true
 distinct_sent [] rise = refl
 distinct_sent (Send job end ∷ later) rise =
     let apart : list_any (λ other. other == job.number) (sent_numbers (notes_of later)) ≡ false =
@@ -104,22 +104,22 @@ distinct_first (x ∷ xs) ys distinct =
     let apart : list_any (λ other. other == x) xs ≡ false = any_first (λ other. other == x) xs ys (not-true (list_any (λ other. other == x) (xs ++ ys)) parts.0) in
     rw apart (distinct_first xs ys parts.1)
 
-pub sent_noting : (news : List NotedJob) (later : List Note) → sent_numbers (noting_of news ++ later) ≡ sent_numbers later
+pub sent_noting : (new_jobs : List NotedJob) (later : List Note) → sent_numbers (noting_of new_jobs ++ later) ≡ sent_numbers later
 sent_noting [] later = refl
-sent_noting (job ∷ news) later = sent_noting news later
+sent_noting (job ∷ new_jobs) later = sent_noting new_jobs later
 
 -- the numbers of the notices that were sent differ
-pub sent_differ : (table : JobTable) (notes : List Note) (plan : MailPlan) (made next : List Note) → AreDuesOf table notes plan.dues.items → IsNotesPrefix (made ++ next) (steps_by plan) →
+pub sent_differ : (table : JobTable) (notes : List Note) (plan : MailPlan) (made next : List Note) → AreDuesOf table notes plan.due_notices.items → IsNotesPrefix (made ++ next) (steps_by plan) →
     are_distinct (sent_numbers made) ≡ true
 sent_differ table notes plan made next are first =
     let all : are_distinct (sent_numbers (steps_by plan)) ≡ true =
-    ap are_distinct (sent_noting plan.news.items (notes_of plan.dues.items))
-    ∙ distinct_sent plan.dues.items (subst AreDuesAscending (sym are.dues_are) (rise_all table are.jobs are.waiting.rise)) in
+    ap are_distinct (sent_noting plan.new_jobs.items (notes_of plan.due_notices.items))
+    ∙ distinct_sent plan.due_notices.items (subst AreDuesAscending (sym are.dues_are) (rise_all table are.jobs are.waiting.rise)) in
     let parted : sent_numbers (steps_by plan) ≡ sent_numbers made ++ sent_numbers (next ++ first.0) =
     ap sent_numbers (first.1 ∙ append_assoc made next first.0) ∙ sent_join made (next ++ first.0) in
     distinct_first (sent_numbers made) (sent_numbers (next ++ first.0)) (ap are_distinct (sym parted) ∙ all)
 
--- the numbers of what was handed over
+-- the numbers of what was sent
 pub sent_of_hands : (of : Mailing) (notes : List Note) (given : List Handed) → SendsNotices of notes given → sent_numbers notes ≡ map (λ (one : Handed). one.number) given
 sent_of_hands of [] given none = sym (ap (map (λ (one : Handed). one.number)) none)
 sent_of_hands of (Sent number ∷ later) given hands =
@@ -144,22 +144,22 @@ notes_fit None notes none note has = absurd (subst (λ (l : List Note). Has l no
 notes_fit (Some bytes) notes lines note has = lines_fit bytes notes lines.spelled note has
 
 -- a notice that is sent is that of a job that waited
-pub sent_waits : (table : JobTable) (notes : List Note) (dues : List NoticeDue) (are : AreDuesOf table notes dues) (number : ℕ) → Has (sent_numbers (notes_of dues)) number →
+pub sent_waits : (table : JobTable) (notes : List Note) (due_notices : List NoticeDue) (are : AreDuesOf table notes due_notices) (number : ℕ) → Has (sent_numbers (notes_of due_notices)) number →
     (job : NotedJob) × Has are.jobs job × (job.number ≡ number)
-sent_waits table notes dues are number has =
-    let from = has_sent dues number has in
+sent_waits table notes due_notices are number has =
+    let from = has_sent due_notices number has in
     let given = given_has (due_in table) are.jobs from.0 (subst (λ (l : List NoticeDue). Has l from.0) are.dues_are from.1) in
     (given.0, given.1, sym (number_due given.0 (entry_at table given.0.number) from.0 given.2) ∙ from.2)
 
-pub sent_fit : (held : Option (List ℕ)) (table : JobTable) (notes : List Note) (plan : MailPlan) (made next : List Note) → GivesNotes held notes → AreDuesOf table notes plan.dues.items →
+pub sent_fit : (held : Option (List ℕ)) (table : JobTable) (notes : List Note) (plan : MailPlan) (made next : List Note) → GivesNotes held notes → AreDuesOf table notes plan.due_notices.items →
     IsNotesPrefix (made ++ next) (steps_by plan) → (number : ℕ) → Has (sent_numbers made) number → Fits number
 sent_fit held table notes plan made next gives are first number has =
     let parted : sent_numbers (steps_by plan) ≡ sent_numbers made ++ sent_numbers (next ++ first.0) =
     ap sent_numbers (first.1 ∙ append_assoc made next first.0) ∙ sent_join made (next ++ first.0) in
-    let among : Has (sent_numbers (notes_of plan.dues.items)) number =
-    subst (λ (l : List ℕ). Has l number) (sym parted ∙ sent_noting plan.news.items (notes_of plan.dues.items))
+    let among : Has (sent_numbers (notes_of plan.due_notices.items)) number =
+    subst (λ (l : List ℕ). Has l number) (sym parted ∙ sent_noting plan.new_jobs.items (notes_of plan.due_notices.items))
     (has_left (sent_numbers made) (sent_numbers (next ++ first.0)) number has) in
-    let job = sent_waits table notes plan.dues.items are number among in
+    let job = sent_waits table notes plan.due_notices.items are number among in
     let noted : IsNote (Noted job.0) =
     notes_fit held notes gives (Noted job.0) (has_contained notes (Noted job.0) (are.waiting.each job.0 (contained are.jobs job.0 job.1)).noted) in
     subst Fits job.2 noted.0

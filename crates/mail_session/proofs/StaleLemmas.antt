@@ -4,9 +4,9 @@ use Rattle.std.specs.Prelude.{Contains, IsSome, nat_eq, not}
 use Rattle.std.specs.Cmp.Lexicographic.{bytes_decides, pointwise}
 use Rattle.std.specs.FinMap as finite
 use Rattle.std.proofs.lemmas.Bool.{or_cases}
-use Rattle.host_calls.specs.Folder.{Files}
+use Rattle.host_calls.specs.Directory.{Files}
 use Rattle.spool_shows.proofs.PickedNames.{picked_among, picked_are_files, picked_there}
-use Rattle.whole_file.specs.Clearing.{AreFiles}
+use Rattle.whole_file.specs.Removal.{AreFiles}
 use Rattle.daemon_turn.specs.declared.kid.Kid.{Kid}
 use Rattle.daemon_turn.specs.Decisions.{has_kid}
 use Rattle.mail_notes.specs.Lines.{Fits}
@@ -23,7 +23,7 @@ notes_stay kids = refl
 pub temp_is_stale : (kids : List Kid) → is_stale kids mail_temp ≡ true
 temp_is_stale kids = refl
 
--- and so is a notice that belongs to no kid
+-- and so is a notice that belongs to no child
 pub notice_is_stale : (kids : List Kid) (number : ℕ) → Fits number → is_stale kids (notice_file number) ≡ not (has_kid kids number)
 notice_is_stale kids number fits = ap (is_notice_without_kid kids) ((notice_numbers_are_read (notice_file number) number).1 (fits, refl))
 

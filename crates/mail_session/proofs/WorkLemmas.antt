@@ -12,14 +12,14 @@ use Rattle.host_calls.specs.declared.fault.HostFault.{HostFault}
 use Rattle.host_calls.specs.declared.fault.HostFault.TheVariants as host
 use Rattle.host_calls.specs.Session.{CallsInside, Session}
 use Rattle.host_calls.specs.World.{Moment, World, moments, reading}
-use Rattle.host_calls.proofs.FolderLemmas.{reading_is_image}
-use Rattle.host_session.proofs.SessionLemmas.{counts_on}
+use Rattle.host_calls.proofs.DirectoryLemmas.{reading_is_image}
+use Rattle.host_calls.proofs.SessionLemmas.{counts_on}
 use Rattle.spool_model.specs.JobTable.{JobTable}
 use Rattle.spool_shows.proofs.Membership.{Has, contained, has_contained, has_either, has_left, has_right}
 use Rattle.host_calls.specs.declared.store_fault.StoreFault.{StoreFault}
 use Rattle.host_calls.specs.declared.store_fault.StoreFault.TheVariants as fault
 use Rattle.host_calls.specs.StoreFaults.{IsReadingFault, store_fault_of}
-use Rattle.spool_store.specs.Recovering.{IsRecovered}
+use Rattle.spool_store.specs.Recovery.{IsRecovered}
 use Rattle.step_runs.specs.Calls.{ShowsAsBefore}
 use Rattle.step_runs.proofs.ApartLemmas.{all_each}
 use Rattle.step_runs.proofs.AttemptLemmas.{recoveries_begin_nothing}
@@ -27,7 +27,7 @@ use Rattle.whole_file.specs.Others.{ChangesFiles}
 use Rattle.daemon_turn.specs.declared.kid.Kid.{Kid}
 use Rattle.daemon_turn.specs.Decisions.{questions}
 use Rattle.daemon_turn.specs.Kids.{AreChildren}
-use Rattle.host_session.specs.Ends.{end_after}
+use Rattle.host_calls.specs.SessionEnds.{end_after}
 use Rattle.mail_notes.specs.declared.note.Note.{Note}
 use Rattle.mail_notes.specs.declared.note.Note.TheVariants.{Noted}
 use Rattle.mail_notes.specs.Hands.{Mailing}
@@ -36,15 +36,15 @@ use Rattle.mail_notes.specs.Names.{mail_file, notice_file}
 use Rattle.mail_notes.proofs.NameLemmas.{mail_is_none_of_the_stores}
 use Rattle.mail_notes.specs.Runs.{HoldsNotesAlone}
 use Rattle.mail_session.specs.declared.plan.MailPlan.{MailPlan}
-use Rattle.mail_session.specs.Asking.{kids_after}
+use Rattle.mail_session.specs.AskedChildren.{kids_after}
 use Rattle.mail_session.specs.Dues.{AreDue, sent_numbers}
-use Rattle.mail_session.specs.Leaving.{AreNoticeFiles, AreMailSteps, SessionHandsOver, GivesNotes, HasReadNotes, IsMailIdle, IsMailStopped, IsMailDone, MailLeaves, PostSpool}
+use Rattle.mail_session.specs.SessionOutcome.{AreNoticeFiles, AreMailSteps, SessionHandsOver, GivesNotes, HasReadNotes, IsMailIdle, IsMailStopped, IsMailDone, MailLeaves, PostSpool}
 use Rattle.mail_session.specs.News.{IsNotedFrom}
 use Rattle.mail_session.specs.NoticeFiles.{is_notice_of}
-use Rattle.mail_session.specs.Posting.{MailPart}
+use Rattle.mail_session.specs.DueNotices.{MailPart}
 use Rattle.mail_session.specs.Sessions.{HasPosted, AreNotesOpened}
-use Rattle.mail_session.specs.inside.Planning.{IsPlanned, IsPlanIn, IsUnplanned}
-use Rattle.mail_session.specs.inside.Working.{CarriesOutPlan, CarriesTo, MakesNotes, MayCarryOut, ReadsNotices, MailWorks, steps_by}
+use Rattle.mail_session.specs.inside.PlannedSession.{IsPlanned, IsPlanIn, IsUnplanned}
+use Rattle.mail_session.specs.inside.SessionWork.{RunsPlan, CarriesTo, MakesNotes, MayRunPlan, ReadsNotices, MailWorks, steps_by}
 use Rattle.mail_session.proofs.AskingLemmas.{kids_among}
 use Rattle.mail_session.proofs.DueLemmas.{dues_are_due}
 use Rattle.mail_session.proofs.PlanLemmas.{dues_on_the_table, holds_notes, new_on_the_table, notes_as_before}
@@ -54,7 +54,7 @@ use Rattle.mail_session.proofs.SentNumberLemmas.{none_sent, sent_differ, sent_fi
 abbrev pub stand : Session → World → List ℕ → List Kid → PostSpool
 stand session world program kids = record { session = session; world = world; post = record { program = program; kids = kids } }
 
--- Kids.
+-- Children.
 
 has_child : (kids : List Kid) (kid : Kid) → Has kids kid → Has (map (λ (one : Kid). one.child) kids) kid.child
 has_child (first ∷ kids) kid (inl same) = inl (ap (λ (one : Kid). one.child) same)
@@ -127,10 +127,10 @@ module _ (tells : Bool) (before between after : Session) (old opened new : World
   at_last = stand after new program left
 
   module _ (known : tells ≡ true) where
-    abbrev recovered : IsRecovered old.now.folder opened.now.folder planned.kept
+    abbrev recovered : IsRecovered old.now.directory opened.now.directory planned.kept
     recovered = planned.recovered known
 
-    abbrev changes : ChangesFiles (ShowsAsBefore old.now.folder) old opened
+    abbrev changes : ChangesFiles (ShowsAsBefore old.now.directory) old opened
     changes = planned.changes known
 
     abbrev table : JobTable
@@ -142,24 +142,24 @@ module _ (tells : Bool) (before between after : Session) (old opened new : World
     pub is_opened : AreNotesOpened notes table old opened
     is_opened = recoveries_open planned.kept notes old opened changes recovered (holds_notes (finite.get (reading opened) mail_file) notes plan_in.gives)
 
-    pub may_carry_out : MayCarryOut opened kids plan
+    pub may_carry_out : MayRunPlan opened kids plan
     may_carry_out = record { start = old; table = table; notes = notes; is_opened = is_opened; stale = plan_in.stale }
 
     abbrev mailing : Mailing
     mailing = record { program = program; table = table; notes = notes ++ steps_by plan }
 
-    are_due : AreDue mailing plan.dues.items
+    are_due : AreDue mailing plan.due_notices.items
     are_due = dues_are_due mailing notes planned.kept.table recovered.current.without_scripts_is
         (λ job has. contained (notes ++ steps_by plan) (Noted job) (has_left notes (steps_by plan) (Noted job) (has_contained notes (Noted job) has)))
-        plan.dues.items planned.plan_on.plan_for.dues
+        plan.due_notices.items planned.plan_on.plan_for.due_notices
 
     steps_are : AreMailSteps (reading opened) table notes (steps_by plan)
     steps_are = record {
-      news = plan.news.items;
-      dues = plan.dues.items;
+      new_jobs = plan.new_jobs.items;
+      due_notices = plan.due_notices.items;
       numbers = planned.plan_on.plan_for.numbers ∙ new_on_the_table planned.kept.table table notes recovered.current.without_scripts_is;
-      each = λ job has. all_each (IsNotedFrom (reading opened) table) plan.news.items plan_in.noted job (has_contained plan.news.items job has);
-      due = dues_on_the_table planned.kept.table table notes plan.dues.items recovered.current.without_scripts_is planned.plan_on.plan_for.dues;
+      each = λ job has. all_each (IsNotedFrom (reading opened) table) plan.new_jobs.items plan_in.noted job (has_contained plan.new_jobs.items job has);
+      due = dues_on_the_table planned.kept.table table notes plan.due_notices.items recovered.current.without_scripts_is planned.plan_on.plan_for.due_notices;
       all = refl;
     }
 
@@ -197,7 +197,7 @@ module _ (tells : Bool) (before between after : Session) (old opened new : World
       notices_so : MakesNotes between after plan kids left [] gone part answers (Ok tt) → ReadsNotices kids (sent_numbers part.made) opened new → AreNoticeFiles kids gone (reading old) (reading new)
       notices_so goes reads =
           let fit : (number : ℕ) → Has (sent_numbers part.made) number → Fits number =
-          sent_fit (finite.get (reading opened) mail_file) planned.kept.table notes plan part.made part.next plan_in.gives planned.plan_on.plan_for.dues goes.prefix in
+          sent_fit (finite.get (reading opened) mail_file) planned.kept.table notes plan part.made part.next plan_in.gives planned.plan_on.plan_for.due_notices goes.prefix in
           let apart : (number : ℕ) → Fits number → (Contains gone number → ⊥) → is_notice_of (sent_numbers part.made) (notice_file number) ≡ false =
           λ number fits none. none_sent (sent_numbers part.made) fit number fits (λ among. none (subst (λ (l : List ℕ). Contains l number) (sym goes.sent_are) among)) in
           let before : (number : ℕ) → finite.get (reading opened) (notice_file number) ≡ finite.get (reading old) (notice_file number) =
@@ -217,13 +217,13 @@ module _ (tells : Bool) (before between after : Session) (old opened new : World
         given = to.given;
         answers = answers;
         posted = subst (λ (l : List Note). HasPosted mailing notes l table old new) goes.all.0 to.posted;
-        stand = subst (λ (l : List Note). HoldsNotesAlone (notes ++ l) new.now.folder) goes.all.0 to.ready;
+        stand = subst (λ (l : List Note). HoldsNotesAlone (notes ++ l) new.now.directory) goes.all.0 to.ready;
         each_asked = goes.all.1;
         gave = subst (λ (l : List Note). SessionHandsOver l to.given answers mailing gone at_first at_last) goes.all.0 (gave_so (Ok tt) goes to);
         notices = notices_so goes to.reads;
         others = λ name spool mail.
-            let alone = to.alone (reading new) (reading_is_image new.now.folder) in
-            alone.others name mail ∙ recovered.certain_others alone.from alone.was name spool ∙ recovered.others name spool;
+            let alone = to.alone (reading new) (reading_is_image new.now.directory) in
+            alone.others name mail ∙ recovered.durable_others alone.from alone.was name spool ∙ recovered.others name spool;
       }
 
       stopped_so : (of : HostFault) → MakesNotes between after plan kids left [] gone part answers (Err of) → CarriesTo mailing notes table kids part (questions kids answers) old opened new (Err of) → IsMailStopped gone at_first at_last
@@ -268,10 +268,10 @@ module _ (tells : Bool) (before between after : Session) (old opened new : World
 
     distinct_so : (part : MailPart) (answers : List (Option Ending)) (result : Result (Unit {0}) HostFault) → MakesNotes between after plan kids left [] gone part answers result → are_distinct gone ≡ true
     distinct_so part answers result goes =
-        ap are_distinct goes.sent_are ∙ sent_differ planned.kept.table notes plan part.made part.next planned.plan_on.plan_for.dues goes.prefix
+        ap are_distinct goes.sent_are ∙ sent_differ planned.kept.table notes plan part.made part.next planned.plan_on.plan_for.due_notices goes.prefix
 
     -- all steps were made
-    pub works_whole : CarriesOutPlan program tells between after opened new plan kids left [] gone (Ok tt) → MailWorks tells at_first at_last gone (Ok tt)
+    pub works_whole : RunsPlan program tells between after opened new plan kids left [] gone (Ok tt) → MailWorks tells at_first at_last gone (Ok tt)
     works_whole carries = record {
       inside = carries.goes.inside;
       counts = counts_on before between after inside.stays.counts carries.goes.counts;
@@ -294,7 +294,7 @@ module _ (tells : Bool) (before between after : Session) (old opened new : World
       not_damaged damage bad = cc
 
     -- or they were stopped
-    pub works_stopped : (of : HostFault) (result : Result (Unit {0}) StoreFault) → IsErrAnd result (λ other. other ≡ store_fault_of of) → CarriesOutPlan program tells between after opened new plan kids left [] gone (Err of) →
+    pub works_stopped : (of : HostFault) (result : Result (Unit {0}) StoreFault) → IsErrAnd result (λ other. other ≡ store_fault_of of) → RunsPlan program tells between after opened new plan kids left [] gone (Err of) →
         MailWorks tells at_first at_last gone result
     works_stopped of (Ok done) err carries = absurd err
     works_stopped of (Err other) err carries = subst (λ (one : StoreFault). MailWorks tells at_first at_last gone (Err one)) (sym err) (record {
@@ -318,6 +318,6 @@ module _ (tells : Bool) (before between after : Session) (old opened new : World
 
 -- the same where nothing was sent before
 pub carries_first : (program : List ℕ) (tells : Bool) (before after : Session) (old new : World) (plan : MailPlan) (kids left : List Kid) (sent gone : List ℕ) (result : Result (Unit {0}) HostFault) →
-    sent ≡ [] → CarriesOutPlan program tells before after old new plan kids left sent gone result → CarriesOutPlan program tells before after old new plan kids left [] gone result
+    sent ≡ [] → RunsPlan program tells before after old new plan kids left sent gone result → RunsPlan program tells before after old new plan kids left [] gone result
 carries_first program tells before after old new plan kids left sent gone result none carries =
-    subst (λ (l : List ℕ). CarriesOutPlan program tells before after old new plan kids left l gone result) none carries
+    subst (λ (l : List ℕ). RunsPlan program tells before after old new plan kids left l gone result) none carries

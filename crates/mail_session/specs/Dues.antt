@@ -13,7 +13,7 @@ note_of (Drop number) = Dropped number
 
 -- the notes by which all of it is done
 abbrev pub notes_of : List NoticeDue → List Note
-notes_of dues = map note_of dues
+notes_of due_notices = map note_of due_notices
 
 -- a notice is due of a job that was noted, with the end of its job
 abbrev pub IsDue : Mailing → NoticeDue → Type 0

@@ -4,14 +4,14 @@ use Rattle.std.specs.FinMap as map
 use Rattle.host_calls.specs.declared.child.Asked.{Asked}
 use Rattle.host_calls.specs.declared.child.Ending.{Ending}
 use Rattle.host_calls.specs.declared.child.Handed.{Handed}
-use Rattle.host_calls.specs.Folder.{Files}
+use Rattle.host_calls.specs.Directory.{Files}
 use Rattle.host_calls.specs.World.{World, reading}
 use Rattle.spool_model.specs.JobTable.{JobTable}
 use Rattle.step_runs.specs.Calls.{ShowsAsBefore}
 use Rattle.step_runs.specs.Current.{Kept}
 use Rattle.step_runs.specs.WithoutScripts.{without_scripts}
-use Rattle.spool_store.specs.Recovering.{IsRecovered}
-use Rattle.whole_file.specs.Clearing.{AreCleared, IsClearing}
+use Rattle.spool_store.specs.Recovery.{IsRecovered}
+use Rattle.whole_file.specs.Removal.{AreCleared, IsClearing}
 use Rattle.whole_file.specs.Others.{ChangesFiles}
 use Rattle.daemon_turn.specs.declared.kid.Kid.{Kid}
 use Rattle.daemon_turn.specs.Decisions.{questions}
@@ -23,7 +23,7 @@ use Rattle.mail_notes.specs.Lines.{HoldsNotes}
 use Rattle.mail_notes.specs.Names.{IsMailName, mail_file, mail_temp}
 use Rattle.mail_notes.specs.Runs.{AreNotesMade, AreNotesStopped, HoldsNotesAlone}
 use Rattle.mail_session.specs.declared.due.NoticeDue.{NoticeDue}
-use Rattle.mail_session.specs.Asking.{asked_besides}
+use Rattle.mail_session.specs.AskedChildren.{asked_besides}
 use Rattle.mail_session.specs.Dues.{AreDue}
 use Rattle.mail_session.specs.Sessions.{HasPosted, IsCleared, AreNotesOpened}
 use Rattle.mail_session.specs.Stale.{AreStaleFiles, stale_names}
@@ -32,7 +32,7 @@ use Rattle.mail_session.specs.Steps.{AreDuesOf}
 -- a recovery opens the session, with the notes that are read after it
 abbrev pub RecoveriesOpen : Type 0
 RecoveriesOpen = (kept : Kept) (notes : List Note) (start opened : World) →
-    ChangesFiles (ShowsAsBefore start.now.folder) start opened → (is : IsRecovered start.now.folder opened.now.folder kept) →
+    ChangesFiles (ShowsAsBefore start.now.directory) start opened → (is : IsRecovered start.now.directory opened.now.directory kept) →
     HoldsNotes (map.get (reading opened) mail_file) notes → AreNotesOpened notes is.table start opened
 
 -- where these files of mail are removed, one that is being made among them, the notes may be made
@@ -40,13 +40,14 @@ abbrev pub LeftoversAreCleared : Type 0
 LeftoversAreCleared = (notes : List Note) (table : JobTable) (names : List (List ℕ)) (start opened cleared : World) →
     AreNotesOpened notes table start opened → ((name : List ℕ) → Contains names name → IsMailName name × (name ≢ mail_file)) →
     (IsSome (map.get (reading opened) mail_temp) → Contains names mail_temp) →
-    ChangesFiles (IsClearing names opened.now.folder) opened cleared →
-    (names ≢ [] → AreCleared names opened.now.folder cleared.now.folder) → IsCleared notes table start cleared
+    ChangesFiles (IsClearing names opened.now.directory) opened cleared →
+    (names ≢ [] → AreCleared names opened.now.directory cleared.now.directory) → IsCleared notes table start cleared
 
--- a question to kids changes no file, hands nothing over and makes no note
+-- a question to children changes no file, starts nothing and makes no note
 abbrev pub QuestionsMakeNoNote : Type 0
 QuestionsMakeNoNote = (of : Mailing) (notes : List Note) (kids : List Kid) (answers : List (Option Ending)) (world : World) →
-    HoldsNotesAlone notes world.now.folder → AreNotesMade of notes [] [] (questions kids answers) world (asked_besides kids answers world)
+    HoldsNotesAlone notes world.now.directory → AreNotesMade of notes [] [] (questions kids answers) world
+    (asked_besides kids answers world)
 
 -- the files that are left over are files of mail, none of them that of the notes, and one that is being made is among them
 abbrev pub StaleFilesAreOfMail : Type 0
@@ -67,5 +68,6 @@ StoppedSessionsPost = (of : Mailing) (notes new_ones next : List Note) (given : 
 
 -- what is due of the jobs that wait, by what a store keeps of the table, is due
 abbrev pub DuesAreDue : Type 0
-DuesAreDue = (of : Mailing) (notes : List Note) (table : JobTable) (dues : List NoticeDue) → table ≡ without_scripts of.table →
-    ((job : NotedJob) → Contains notes (Noted job) → Contains of.notes (Noted job)) → AreDuesOf table notes dues → AreDue of dues
+DuesAreDue = (of : Mailing) (notes : List Note) (table : JobTable) (due_notices : List NoticeDue) → table ≡ without_scripts of.table →
+    ((job : NotedJob) → Contains notes (Noted job) → Contains of.notes (Noted job)) → AreDuesOf table notes due_notices
+    → AreDue of due_notices

@@ -1,7 +1,7 @@
 -- The jobs that a session notes (own): the live ones that no note is of, by number.
 use Rattle.std.specs.Prelude.{◌≡◌, ℕ, Bool, List, Some, filter, map, not}
 use Rattle.std.specs.FinMap as finite
-use Rattle.host_calls.specs.Folder.{Files}
+use Rattle.host_calls.specs.Directory.{Files}
 use Rattle.job_name.specs.JobName.{SpellsJobName}
 use Rattle.job_script.specs.HeaderIn.{header_in}
 use Rattle.spool_model.specs.declared.entry.Entry.TheVariants.{Live}
@@ -23,7 +23,7 @@ new_numbers table notes = filter (is_new notes) (map (λ row. row.number) (live_
 
 -- the notes that these jobs were seen
 abbrev pub noting_of : List NotedJob → List Note
-noting_of news = map Noted news
+noting_of new_jobs = map Noted new_jobs
 
 -- A live job is noted so: by the name of its file, which holds its script, and by the user and the flag of the script's
 -- header.

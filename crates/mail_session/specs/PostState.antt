@@ -5,12 +5,12 @@ use Rattle.std.specs.List.{list_any}
 use Rattle.daemon_turn.specs.contracts.kid.Kid as kid
 use Rattle.daemon_turn.specs.declared.kid.Kid.{Kid}
 
--- What a post keeps: its mail program, and its kids, each the child of the notice of its number.
+-- What a post keeps: its mail program, and its children, each the child of the notice of its number.
 pub record PostState : Type 0 where
   pub program : List ℕ
   pub kids : List Kid
 
--- a post that has no kids
+-- a post that has no children
 abbrev pub new_post : List ℕ → PostState
 new_post program = record { program = program; kids = [] }
 

@@ -1,14 +1,14 @@
--- Files of mail that are left over (own): one that was being made, and notices that belong to no kid.
+-- Files of mail that are left over (own): one that was being made, and notices that belong to no child.
 use Rattle.std.specs.Prelude.{◌≢◌, ◌||◌, ℕ, Bool, false, List, Option, None, Some, Contains, IsSome, filter, nat_eq, not}
 use Rattle.std.specs.FinMap as map
 use Rattle.std.specs.Cmp.Lexicographic.{pointwise}
-use Rattle.host_calls.specs.Folder.{Files}
-use Rattle.whole_file.specs.Clearing.{AreFiles}
+use Rattle.host_calls.specs.Directory.{Files}
+use Rattle.whole_file.specs.Removal.{AreFiles}
 use Rattle.daemon_turn.specs.declared.kid.Kid.{Kid}
 use Rattle.daemon_turn.specs.Decisions.{has_kid}
 use Rattle.mail_notes.specs.Names.{IsMailName, mail_file, mail_temp, notice_number}
 
--- the notice of the number belongs to no kid
+-- the notice of the number belongs to no child
 abbrev pub is_notice_without_kid : List Kid → Option ℕ → Bool
 is_notice_without_kid kids None = false
 is_notice_without_kid kids (Some number) = not (has_kid kids number)

@@ -26,7 +26,7 @@ due_of_entry job (Some (Done fate)) = Some (due_by job fate)
 due_of_entry job None = Some (Drop job.number)
 
 -- these are due of the jobs that wait, by number
-pub record AreDuesOf (table : JobTable) (notes : List Note) (dues : List NoticeDue) : Type 0 where
+pub record AreDuesOf (table : JobTable) (notes : List Note) (due_notices : List NoticeDue) : Type 0 where
   pub jobs : List NotedJob
   pub waiting : AreAwaitingNotice notes jobs
-  pub dues_are : dues ≡ filter_map (λ job. due_of_entry job (entry_at table job.number)) jobs
+  pub dues_are : due_notices ≡ filter_map (λ job. due_of_entry job (entry_at table job.number)) jobs

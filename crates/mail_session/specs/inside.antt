@@ -1,4 +1,4 @@
-pub mod Planning
-pub mod Sending
-pub mod Staying
-pub mod Working
+pub mod PlannedSession
+pub mod SentNotice
+pub mod RemainingChildren
+pub mod SessionWork

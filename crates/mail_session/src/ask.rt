@@ -1,16 +1,16 @@
-//! Kids are asked whether they have ended.
+//! Children are asked whether they have ended.
 ghost use Rattle.std.specs.Prelude.{◌≡◌, ◌<◌, length, vec_len};
 ghost use Rattle.daemon_turn.specs.Kids.{AreChildren};
 ghost use Rattle.host_calls.specs.Session.{IsInside, StaysInside};
-ghost use Rattle.mail_session.specs.Asking.{AsksKids};
-ghost use Rattle.mail_session.specs.inside.Staying.{IsChildAt, kids_left_by, place_by};
+ghost use Rattle.mail_session.specs.AskedChildren.{AsksKids};
+ghost use Rattle.mail_session.specs.inside.RemainingChildren.{IsChildAt, kids_left_by, place_by};
 
 use daemon_turn::Kid;
 use host_calls::{Child, Ending, Host};
 use std::alloc::{AllocError, Global};
 
-/// Asks each of the kids once, in order, and drops those that have ended. Where memory is wanting for a question, the
-/// kids that were not asked stay.
+/// Asks each of the children once, in order, and drops those that have ended. Where memory is wanting for a question,
+/// the children that were not asked stay.
 pub fn ask_kids<H: Host>(alloc: Global, host: &mut H, kids: &mut Vec<Kid>) -> Result<(), AllocError>
     requires inside { IsInside (H.session host.old) }
     requires children { AreChildren (H.session host.old).children kids.old.items }
@@ -26,7 +26,7 @@ pub fn ask_kids<H: Host>(alloc: Global, host: &mut H, kids: &mut Vec<Kid>) -> Re
     Ok(())
 }
 
-// The child of the kid at the place.
+// The child of the child at the place.
 fn child_at(kids: &[Kid], place: usize) -> Child
     requires { place < length kids.now }
     ensures { IsChildAt kids.now place result }
@@ -34,7 +34,7 @@ fn child_at(kids: &[Kid], place: usize) -> Child
     kids[place].child
 }
 
-// Passes the kid at the place, which answered so: it is dropped where it has ended. The place of the next one.
+// Passes the child at the place, which answered so: it is dropped where it has ended. The place of the next one.
 fn pass(kids: &mut Vec<Kid>, place: usize, answer: Option<Ending>) -> usize
     requires { place < vec_len kids.old }
     ensures place { result ≡ place_by place answer }

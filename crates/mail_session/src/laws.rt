@@ -2,7 +2,7 @@
 ghost use Rattle.mail_session.specs.Laws.{DuesAreDue, LeftoversAreCleared, QuestionsMakeNoNote, RecoveriesOpen, SessionsPost, StaleFilesAreOfMail, StoppedSessionsPost};
 
 /// After a recovery and the removal of left-over files of mail, notes that are made, to their end or not, leave at each
-/// moment what the folder showed, and the notes with a prefix of the new ones, whose notices were handed over.
+/// moment what the directory showed, and the notes with a prefix of the new ones, whose notices were sent.
 pub fn sessions_of_mail_join()
     ensures opened { RecoveriesOpen }
     ensures cleared { LeftoversAreCleared }
@@ -15,7 +15,7 @@ pub fn dues_are_due()
     ensures { DuesAreDue }
 {}
 
-/// Files of mail that are left over may be removed, and a question to kids makes no note.
+/// Files of mail that are left over may be removed, and a question to children makes no note.
 pub fn stale_files_and_questions()
     ensures stale { StaleFilesAreOfMail }
     ensures questions { QuestionsMakeNoNote }

@@ -4,13 +4,13 @@
 
 mod ask;
 mod due;
-mod dues;
+mod due_notices;
 mod laws;
 mod line;
 mod mailer;
-mod news;
+mod new_jobs;
+mod note_lines;
 mod notice_start;
-mod noting;
 mod places;
 mod plan;
 mod post;
@@ -22,11 +22,11 @@ mod work;
 
 pub use ask::ask_kids;
 pub use due::NoticeDue;
-pub use dues::dues_of;
+pub use due_notices::dues_of;
 pub use laws::{dues_are_due, sessions_of_mail_join, stale_files_and_questions};
 pub use mailer::Post;
-pub use news::news_of;
-pub use noting::{add_note_lines, note_news};
+pub use new_jobs::new_jobs_of;
+pub use note_lines::{add_note_lines, note_news};
 pub use post::post_all;
 pub use read::{ReadNotes, read_notes};
 pub use report::PostReport;

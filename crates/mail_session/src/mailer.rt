@@ -3,19 +3,18 @@ ghost use Rattle.std.specs.Prelude.{◌≡◌, IfOk, IsTrue};
 ghost use Rattle.at_words.specs.Numbers.{are_distinct};
 ghost use Rattle.daemon_turn.specs.Kids.{AreChildren};
 ghost use Rattle.host_calls.specs.Session.{IsOutside};
-ghost use Rattle.mail_session.specs.Leaving.{PostsTo};
+ghost use Rattle.mail_session.specs.SessionOutcome.{PostsTo};
 ghost use Rattle.mail_session.specs.PostState.{may_be_program, new_post};
 
 use crate::PostReport;
 use crate::work::mail_session_body;
 use at_words::Numbers;
 use daemon_turn::{Kid, TurnEnd, end_of_session};
-use host_calls::Host;
-use host_session::in_session;
+use host_calls::{Host, in_session};
 use std::alloc::{AllocError, Global};
 use std::marker::Model;
 
-/// A post: its mail program, and its kids, each the child of a notice.
+/// A post: its mail program, and its children, each the child of a notice.
 #[derive(Drop)]
 pub struct Post {
     program: Vec<u8>,
@@ -33,7 +32,7 @@ impl Model for Post {
 }
 
 impl Post {
-    /// A post without kids, for this mail program: the path begins with a slash, and holds no zero byte.
+    /// A post without children, for this mail program: the path begins with a slash, and holds no zero byte.
     pub fn new(alloc: Global, program: &str) -> Result<Post, AllocError>
         requires { IsTrue (may_be_program program.now) }
         ensures { IfOk result (λ post. post ≡ new_post program.now) }
@@ -46,15 +45,15 @@ impl Post {
         })
     }
 
-    /// The kids, in the order in which they came.
+    /// The children, in the order in which they came.
     pub fn kids(&self) -> &[Kid]
         ensures { result.now ≡ self.now.kids }
     {
         self.kids.as_slice()
     }
 
-    /// Makes one session: the jobs that are new are noted, the notice of each job that has ended is handed over once its
-    /// note stands, and files of notices that belong to no kid are removed.
+    /// Makes one session: the jobs that are new are noted, the notice of each job that has ended is sent once its
+    /// note stands, and files of notices that belong to no child are removed.
     pub fn session<H: Host>(&mut self, alloc: Global, host: &mut H) -> PostReport
         requires outside { IsOutside (H.session host.old) }
         requires children { AreChildren (H.session host.old).children self.old.kids }

@@ -1,10 +1,10 @@
-//! A notice is handed over.
+//! A notice is sent.
 ghost use Rattle.std.specs.Prelude.{IsSome, IsTrue};
 ghost use Rattle.std.specs.FinMap as map;
 ghost use Rattle.host_calls.specs.Session.{IsInside};
 ghost use Rattle.host_calls.specs.World.{reading};
 ghost use Rattle.mail_notes.specs.Names.{notice_file};
-ghost use Rattle.mail_session.specs.inside.Sending.{HandsNoticeOver};
+ghost use Rattle.mail_session.specs.inside.SentNotice.{HandsNoticeOver};
 
 use host_calls::{Child, Host, HostFault, StartFault};
 use mail_notes::{NOTICE_NICE, notice_name};

@@ -1,11 +1,11 @@
-//! What is due is noted and handed over, one after another.
+//! What is due is noted and sent, one after another.
 ghost use Rattle.std.specs.Prelude.{◌≡◌, ◌+◌, ◌≤◌, ◌++◌, ◌∷◌, [], IsTrue, OnOk, vec_capacity, vec_len};
-ghost use Rattle.host_calls.specs.Folder.{IsInNoImage};
+ghost use Rattle.host_calls.specs.Directory.{IsInNoImage};
 ghost use Rattle.host_calls.specs.Session.{IsInside};
 ghost use Rattle.mail_notes.specs.Lines.{note_line};
 ghost use Rattle.mail_notes.specs.Names.{mail_temp};
 ghost use Rattle.mail_session.specs.Dues.{note_of};
-ghost use Rattle.mail_session.specs.Posting.{Posts, kids_of};
+ghost use Rattle.mail_session.specs.DueNotices.{Posts, kids_of};
 
 use crate::NoticeDue;
 use crate::due::note_of;
@@ -19,23 +19,23 @@ use mail_notes::{NotedJob, notice_text};
 use std::alloc::{AllocError, Global};
 
 /// Notes what is due, in order, each after the notes of the text, and hands each notice over once its note stands. The
-/// child of a notice is a kid. Room for what is kept of a notice is had before it is sent.
+/// child of a notice is a child. Room for what is kept of a notice is had before it is sent.
 pub fn post_all<H: Host>(
     alloc: Global,
     host: &mut H,
     program: &[u8],
-    dues: &[NoticeDue],
+    due_notices: &[NoticeDue],
     text: &mut Vec<u8>,
     kids: &mut Vec<Kid>,
     sent: &mut Vec<u32>,
 ) -> Result<(), HostFault>
     requires inside { IsInside (H.session host.old) }
-    requires no_temp { IsTrue H.tells → IsInNoImage (H.world host.old).now.folder mail_temp }
+    requires no_temp { IsTrue H.tells → IsInNoImage (H.world host.old).now.directory mail_temp }
     ensures { Posts program.now H.tells (H.session host.old) (H.session host.new)
-        (H.world host.old) (H.world host.new) dues.now text.old.items text.new.items
+        (H.world host.old) (H.world host.new) due_notices.now text.old.items text.new.items
         kids.old.items kids.new.items sent.old.items sent.new.items result }
 {
-    for due in dues {
+    for due in due_notices {
         post(alloc, host, program, due, text, kids, sent)?;
     }
     Ok(())
@@ -52,7 +52,7 @@ fn post<H: Host>(
     sent: &mut Vec<u32>,
 ) -> Result<(), HostFault>
     requires inside { IsInside (H.session host.old) }
-    requires no_temp { IsTrue H.tells → IsInNoImage (H.world host.old).now.folder mail_temp }
+    requires no_temp { IsTrue H.tells → IsInNoImage (H.world host.old).now.directory mail_temp }
     ensures { Posts program.now H.tells (H.session host.old) (H.session host.new)
         (H.world host.old) (H.world host.new) (due.now ∷ []) text.old.items text.new.items
         kids.old.items kids.new.items sent.old.items sent.new.items result }

@@ -2,7 +2,7 @@
 use at_words::Numbers;
 use daemon_turn::TurnEnd;
 
-/// How a session ended, and the numbers of the notices that were handed over, in order.
+/// How a session ended, and the numbers of the notices that were sent, in order.
 #[derive(Drop)]
 pub struct PostReport {
     pub end: TurnEnd,

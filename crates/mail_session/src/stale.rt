@@ -10,8 +10,8 @@ use host_calls::{Host, HostFault, Name};
 use mail_notes::{mail_temp_name, notice_number};
 use std::alloc::Global;
 
-/// The names of the files of mail that are left over, where these are the kids: one that was being made, and the notices
-/// that belong to no kid.
+/// The names of the files of mail that are left over, where these are the children: one that was being made, and the
+/// notices that belong to no child.
 pub fn stale_names<H: Host>(
     alloc: Global,
     host: &mut H,
@@ -34,7 +34,7 @@ fn is_stale(kids: &[Kid], name: &Name) -> bool
     *name == mail_temp_name() || is_notice_without_kid(kids, notice_number(name))
 }
 
-// Whether the notice of the number belongs to no kid.
+// Whether the notice of the number belongs to no child.
 fn is_notice_without_kid(kids: &[Kid], number: Option<u32>) -> bool
     ensures { result ≡ is_notice_without_kid kids.now number }
 {

@@ -1,13 +1,13 @@
 //! The work of a session of mail.
 ghost use Rattle.std.specs.Prelude.{◌≡◌, [], IsTrue};
-ghost use Rattle.host_calls.specs.Folder.{IsInNoImage};
+ghost use Rattle.host_calls.specs.Directory.{IsInNoImage};
 ghost use Rattle.host_calls.specs.Session.{IsInside};
 ghost use Rattle.daemon_turn.specs.Kids.{AreChildren};
 ghost use Rattle.mail_notes.specs.Names.{mail_temp};
-ghost use Rattle.mail_session.specs.inside.Working.{CarriesOutPlan, Makes, MayCarryOut, MailWorks};
+ghost use Rattle.mail_session.specs.inside.SessionWork.{RunsPlan, Makes, MayRunPlan, MailWorks};
 
 use crate::ask::ask_kids;
-use crate::noting::note_news;
+use crate::note_lines::note_news;
 use crate::plan::{MailPlan, mail_plan};
 use crate::post::post_all;
 use daemon_turn::Kid;
@@ -16,7 +16,8 @@ use spool_store::StoreFault;
 use std::alloc::Global;
 use whole_file::clear;
 
-// Makes the steps of a session, with the kids that there are, and keeps the numbers of the notices that were sent.
+// Makes the steps of a session, with the children that there are, and keeps the numbers of the notices that were
+// sent.
 pub(crate) fn mail_session_body<H: Host>(
     alloc: Global,
     host: &mut H,
@@ -41,12 +42,12 @@ pub(crate) fn mail_session_body<H: Host>(
         sent.new.items result }
 {
     let mut plan = mail_plan(alloc, host, kids.as_slice())?;
-    carry_out_plan(alloc, host, program, &mut plan, kids, sent)?;
+    run_plan(alloc, host, program, &mut plan, kids, sent)?;
     Ok(())
 }
 
 // Removes the files that are left over, and makes the steps.
-fn carry_out_plan<H: Host>(
+fn run_plan<H: Host>(
     alloc: Global,
     host: &mut H,
     program: &[u8],
@@ -55,9 +56,9 @@ fn carry_out_plan<H: Host>(
     sent: &mut Vec<u32>,
 ) -> Result<(), HostFault>
     requires inside { IsInside (H.session host.old) }
-    requires may { IsTrue H.tells → MayCarryOut (H.world host.old) kids.old.items plan.old }
+    requires may { IsTrue H.tells → MayRunPlan (H.world host.old) kids.old.items plan.old }
     requires children { AreChildren (H.session host.old).children kids.old.items }
-    ensures { CarriesOutPlan program.now H.tells (H.session host.old) (H.session host.new)
+    ensures { RunsPlan program.now H.tells (H.session host.old) (H.session host.new)
         (H.world host.old) (H.world host.new) plan.old kids.old.items kids.new.items
         sent.old.items sent.new.items result }
 {
@@ -65,7 +66,7 @@ fn carry_out_plan<H: Host>(
     make_steps(alloc, host, program, plan, kids, sent)
 }
 
-// Asks the kids, notes the new jobs, and makes what is due.
+// Asks the children, notes the new jobs, and makes what is due.
 fn make_steps<H: Host>(
     alloc: Global,
     host: &mut H,
@@ -75,19 +76,19 @@ fn make_steps<H: Host>(
     sent: &mut Vec<u32>,
 ) -> Result<(), HostFault>
     requires inside { IsInside (H.session host.old) }
-    requires no_temp { IsTrue H.tells → IsInNoImage (H.world host.old).now.folder mail_temp }
+    requires no_temp { IsTrue H.tells → IsInNoImage (H.world host.old).now.directory mail_temp }
     requires children { AreChildren (H.session host.old).children kids.old.items }
     ensures { Makes program.now H.tells (H.session host.old) (H.session host.new)
         (H.world host.old) (H.world host.new) plan.old kids.old.items kids.new.items
         sent.old.items sent.new.items result }
 {
     ask_kids(alloc, host, kids)?;
-    note_news(alloc, host, plan.news.as_slice(), plan.text.as_slice())?;
+    note_news(alloc, host, plan.new_jobs.as_slice(), plan.text.as_slice())?;
     post_all(
         alloc,
         host,
         program,
-        plan.dues.as_slice(),
+        plan.due_notices.as_slice(),
         &mut plan.text,
         kids,
         sent,

@@ -1,9 +1,9 @@
-//! A session that a crash cuts off at each of its calls: no notice is handed over twice.
+//! A session that a crash cuts off at each of its calls: no notice is sent twice.
 ghost use Rattle.std.specs.Prelude.{IfOk};
 ghost use Rattle.host_calls.specs.Session.{IsOutside};
 ghost use Rattle.memory_host.specs.Host.{memory_session};
 
-use crate::folders::{notes_now, spool};
+use crate::directories::{notes_now, spool};
 use crate::program::is_done;
 use memory_host::{MemoryHost, Plan};
 use std::alloc::{AllocError, Global};
@@ -31,7 +31,7 @@ fn two_ends(rt: &impl Abort, alloc: Global, plan: Plan) -> Result<MemoryHost, Al
     spool(rt, alloc, 2, &others, plan)
 }
 
-// How many of the scripts that were handed over are of the number.
+// How many of the scripts that were sent are of the number.
 fn count_of(host: &MemoryHost, number: u32) -> u64 {
     let mut count = 0;
     for handed in host.handed() {
@@ -69,7 +69,7 @@ fn is_sent_on(alloc: Global, pick: u64, host: &mut MemoryHost) -> Result<bool, A
     Ok(second && third && is_closed && is_fit(first, count_of(host, 1), count_of(host, 2)))
 }
 
-// Whether the notices were handed over so often as they may be: once each, where the first session was done.
+// Whether the notices were sent so often as they may be: once each, where the first session was done.
 fn is_fit(was_done: bool, first: u64, second: u64) -> bool {
     first <= 1 && second <= 1 && (!was_done || (first == 1 && second == 1))
 }

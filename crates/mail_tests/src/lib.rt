@@ -6,7 +6,7 @@
 #[cfg(test)]
 mod crashes;
 #[cfg(test)]
-mod folders;
+mod directories;
 #[cfg(test)]
 mod lines;
 #[cfg(test)]

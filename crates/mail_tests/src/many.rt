@@ -1,5 +1,5 @@
 //! Many jobs whose ends are to be told at once.
-use crate::folders::{notes_now, spool};
+use crate::directories::{notes_now, spool};
 use crate::program::is_done;
 use memory_host::Plan;
 use std::alloc::{AllocError, Global};

@@ -3,7 +3,7 @@ ghost use Rattle.std.specs.Prelude.{IfOk};
 ghost use Rattle.host_calls.specs.Session.{IsOutside};
 ghost use Rattle.memory_host.specs.Host.{memory_session};
 
-use crate::folders::{JOB, NOTED, notes_now, spool};
+use crate::directories::{JOB, NOTED, notes_now, spool};
 use crate::program::is_done;
 use at_mail::notice_name;
 use memory_host::{Failing, MemoryHost, Part, Plan};

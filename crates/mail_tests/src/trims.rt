@@ -3,10 +3,9 @@ ghost use Rattle.std.specs.Prelude.{IfOk};
 ghost use Rattle.host_calls.specs.Session.{IsOutside};
 ghost use Rattle.memory_host.specs.Host.{memory_session};
 
-use crate::folders::{JOB, notes_now, spool};
+use crate::directories::{JOB, notes_now, spool};
 use crate::program::{is_done, texts};
-use at_mail::notice_name;
-use mail_trim::trim_program;
+use at_mail::{notice_name, trim_program};
 use memory_host::{MemoryHost, MemorySink, Plan};
 use std::alloc::{AllocError, Global};
 use std::process::Abort;
@@ -78,7 +77,7 @@ fn trims(alloc: Global, host: &mut MemoryHost) -> Result<bool, AllocError>
     Ok(is_silent)
 }
 
-// Whether a trim over these notes leaves those, hands nothing over, and removes no other file.
+// Whether a trim over these notes leaves those, starts nothing, and removes no other file.
 fn trim_leaves(
     rt: &impl Abort,
     alloc: Global,
@@ -142,7 +141,7 @@ fn is_cut_on(alloc: Global, pick: u64, host: &mut MemoryHost) -> Result<bool, Al
     Ok(is_either && is_alone && first && second)
 }
 
-// Whether a session is done, after which the notice of job 3 alone was handed over.
+// Whether a session is done, after which the notice of job 3 alone was sent.
 fn one_is_sent(alloc: Global, host: &mut MemoryHost) -> Result<bool, AllocError>
     requires { IsOutside (memory_session host.old) }
     ensures { IsOutside (memory_session host.new) }

@@ -29,7 +29,7 @@ module _ {X : Type 0} where
   one_more : (given : List X) (count : ℕ) (answer : X) → answer_at given count ≡ Some answer → answers_to given (suc count) ≡ answers_to given count ++ answer ∷ []
   one_more given count answer is = answers_to-suc given count ∙ ap (λ known. answers_to given count ++ option_to_list known) is
 
-  -- there are as many answers as were asked for
+  -- there are as many answers as were requested
   pub length-answers_to : (given : List X) → 0 < length given → (count : ℕ) → length (answers_to given count) ≡ count
   length-answers_to given some zero = ap length (answers_to-zero given)
   length-answers_to given some (suc count) =
@@ -53,7 +53,7 @@ module _ {X : Type 0} where
   slice_get-append_seam [] next = refl
   slice_get-append_seam (first ∷ others) next = slice_get-append_seam others next
 
-  -- what stands at a number of the answers and one more, where it holds of the answers
+  -- what is at a number of the answers and one more, where it holds of the answers
   seam_holds : (given known : List X) (answer : X) (number : ℕ) → answer_at given (length known) ≡ Some answer → AreAnswersOf given known → number < length (known ++ answer ∷ []) → slice_get (known ++ answer ∷ []) number ≡ answer_at given number
   seam_holds given known answer number is holds inside =
       elim (split number (length known) (omega (arith, length-append known (answer ∷ [])))) [

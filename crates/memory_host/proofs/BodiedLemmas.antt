@@ -1,16 +1,16 @@
--- Kept bodies and those of the folder, call after call.
+-- Kept bodies and those of the directory, call after call.
 use Rattle.std.proofs.Common.{◌≡◌, ◌≢◌, ◌⊎◌, ◌<◌, ◌||◌, ◌==◌, ℕ, Bool, true, false, not, List, [], ◌∷◌, ◌++◌, length, cond, sym, ap, subst, ◌∙◌, refl, inl, inr, arith, length-append}
 use Rattle.std.proofs.lemmas.List.{get_or-set_same, get_or-set_other, length-set, set_past, get_or_append_left, get_or_past}
 use Rattle.std.proofs.lemmas.Bool.{cases_eq, cases_lt, eqb-true, eqb-false}
 use Rattle.std.proofs.Math.Seq.{get_or-append_seam}
 use Rattle.std.proofs.lemmas.List.Folds.{list_any-append}
-use Rattle.host_calls.specs.Folder.{Body, with_body, made_body, written_body, certain_body, is_within}
+use Rattle.host_calls.specs.Directory.{Body, with_body, made_body, written_body, durable_body, is_within}
 use Rattle.memory_host.specs.inside.Bodies.{KeptBody, body_of, kept_at, kept_made, kept_written, kept_synced, kept_crashed, none_kept, lies_in, with_kept, with_each}
 use Rattle.memory_host.specs.Crash.{crashed_body}
 use Rattle.memory_host.specs.inside.Known.{AreBodied, IsSyncedBody, ListsNumber}
 use Rattle.memory_host.specs.declared.bodies.Bodies.{Bodies}
 use Rattle.memory_host.specs.declared.body.Range.{Range}
-use Rattle.memory_host.proofs.BodyLemmas.{picked_bytes-certain}
+use Rattle.memory_host.proofs.BodyLemmas.{picked_bytes-durable}
 
 or_assoc : (a b c : Bool) → (a || (b || (c || false))) ≡ ((a || b) || c)
 or_assoc true b c = refl
@@ -25,12 +25,12 @@ body_of-written offset bytes kept i =
     record {
       bytes = (written_body offset bytes (body_of kept)).bytes;
       is_synced = kept.is_synced;
-      is_uncertain = λ place. (ap (λ b. not kept.is_synced || b) (list_any-append (λ range. is_within range.offset range.count place) kept.ranges (range ∷ [])) ∙ or_assoc (not kept.is_synced) (lies_in kept.ranges place) (is_within offset (length bytes) place)) i;
+      is_unsynced_at = λ place. (ap (λ b. not kept.is_synced || b) (list_any-append (λ range. is_within range.offset range.count place) kept.ranges (range ∷ [])) ∙ or_assoc (not kept.is_synced) (lies_in kept.ranges place) (is_within offset (length bytes) place)) i;
     }
 
 -- a crash changes no certain body
-pub crashed-certain : (pick : ℕ) (kept : KeptBody) → kept_crashed pick (kept_synced kept) ≡ kept_synced kept
-crashed-certain pick kept = ap (λ bytes. record { bytes = bytes; is_synced = true; ranges = [] }) (picked_bytes-certain pick (λ place. false) (λ place. refl) 0 kept.bytes)
+pub crashed-durable : (pick : ℕ) (kept : KeptBody) → kept_crashed pick (kept_synced kept) ≡ kept_synced kept
+crashed-durable pick kept = ap (λ bytes. record { bytes = bytes; is_synced = true; ranges = [] }) (picked_bytes-durable pick (λ place. false) (λ place. refl) 0 kept.bytes)
 
 -- Bodies by their numbers.
 
@@ -114,20 +114,20 @@ module _ (body : ℕ → Body) (old new : Bodies) (is : AreBodied body old) wher
 
   -- all bodies changed, where those that are not listed stay so
   bodied_all : (change : KeptBody → KeptBody) (meaning : Body → Body) → change none_kept ≡ none_kept → ((kept : KeptBody) → change (change kept) ≡ change kept) → ((kept : KeptBody) → IsSyncedBody kept → change kept ≡ kept) → ((kept : KeptBody) → IsSyncedBody (change kept)) → ((kept : KeptBody) → body_of (change kept) ≡ meaning (body_of kept)) → new.list.items ≡ with_each change old.unsettled.items old.list.items → AreBodied (λ number. meaning (body number)) new
-  bodied_all change meaning still again stays certain means done =
+  bodied_all change meaning still again stays durable means done =
       let at : (number : ℕ) → kept_at new.list.items number ≡ change (kept_at old.list.items number) = λ number. ap (λ l. kept_at l number) done ∙ with_each-all change still again old.unsettled.items old.list.items (λ other. elim (is.listed other) [ inl settled ↦ inl (stays (kept_at old.list.items other) settled) | inr listed ↦ inr listed ]) number in
       record {
         each = λ number. ap meaning (is.each number) ∙ sym (means (kept_at old.list.items number)) ∙ ap body_of (sym (at number));
-        listed = λ number. inl (subst IsSyncedBody (sym (at number)) (certain (kept_at old.list.items number)));
+        listed = λ number. inl (subst IsSyncedBody (sym (at number)) (durable (kept_at old.list.items number)));
       }
 
-  pub bodied_synced : (number : ℕ) → new.list.items ≡ with_kept kept_synced number old.list.items → new.unsettled.items ≡ old.unsettled.items → AreBodied (with_body body number (certain_body (body number))) new
-  bodied_synced number done same = bodied_changed kept_synced certain_body refl (λ kept. refl) number done (λ other settled. by_number other settled) where
+  pub bodied_synced : (number : ℕ) → new.list.items ≡ with_kept kept_synced number old.list.items → new.unsettled.items ≡ old.unsettled.items → AreBodied (with_body body number (durable_body (body number))) new
+  bodied_synced number done same = bodied_changed kept_synced durable_body refl (λ kept. refl) number done (λ other settled. by_number other settled) where
     by_number : (other : ℕ) → (IsSyncedBody (kept_at old.list.items other) ⊎ ListsNumber old.unsettled.items other) → (IsSyncedBody (kept_at new.list.items other) ⊎ ListsNumber new.unsettled.items other)
     by_number other settled = elim (cases_eq other number) [
       | inl equal ↦ inl (subst IsSyncedBody (sym (ap (λ l. kept_at l other) done ∙ ap (kept_at (with_kept kept_synced number old.list.items)) equal ∙ kept_at-this kept_synced refl number old.list.items)) refl)
       | inr differ ↦ elim settled [
-        | inl certain ↦ inl (subst IsSyncedBody (sym (ap (λ l. kept_at l other) done ∙ kept_at-other kept_synced number old.list.items other differ)) certain)
+        | inl durable ↦ inl (subst IsSyncedBody (sym (ap (λ l. kept_at l other) done ∙ kept_at-other kept_synced number old.list.items other differ)) durable)
         | inr listed ↦ inr (subst (λ l. ListsNumber l other) (sym same) listed)
       ]
     ]
@@ -140,7 +140,7 @@ module _ (body : ℕ → Body) (old new : Bodies) (is : AreBodied body old) wher
     listed = λ other. elim (cases_eq other number) [
       | inl equal ↦ inr (subst (λ l. ListsNumber l other) (sym more) (subst (λ n. ListsNumber (old.unsettled.items ++ number ∷ []) n) (sym equal) (Lists-last old.unsettled.items number)))
       | inr differ ↦ elim (is.listed other) [
-        | inl certain ↦ inl (subst IsSyncedBody (sym (ap (λ l. kept_at l other) done ∙ kept_at-other (kept_written offset bytes) number old.list.items other differ)) certain)
+        | inl durable ↦ inl (subst IsSyncedBody (sym (ap (λ l. kept_at l other) done ∙ kept_at-other (kept_written offset bytes) number old.list.items other differ)) durable)
         | inr listed ↦ inr (subst (λ l. ListsNumber l other) (sym more) (Lists-left old.unsettled.items (number ∷ []) other listed))
       ]
     ];
@@ -154,7 +154,7 @@ module _ (body : ℕ → Body) (old new : Bodies) (is : AreBodied body old) wher
     listed = λ other. elim (cases_eq other (length old.list.items)) [
       | inl equal ↦ inr (subst (λ l. ListsNumber l other) (sym more) (subst (λ n. ListsNumber (old.unsettled.items ++ length old.list.items ∷ []) n) (sym equal) (Lists-last old.unsettled.items (length old.list.items))))
       | inr differ ↦ elim (is.listed other) [
-        | inl certain ↦ inl (subst IsSyncedBody (sym (elsewhere other differ)) certain)
+        | inl durable ↦ inl (subst IsSyncedBody (sym (elsewhere other differ)) durable)
         | inr listed ↦ inr (subst (λ l. ListsNumber l other) (sym more) (Lists-left old.unsettled.items (length old.list.items ∷ []) other listed))
       ]
     ];
@@ -165,8 +165,8 @@ module _ (body : ℕ → Body) (old new : Bodies) (is : AreBodied body old) wher
       | inr beyond ↦ get_or_past (old.list.items ++ kept_made bytes ∷ []) other none_kept (omega (arith, length-append old.list.items (kept_made bytes ∷ []), differ)) ∙ sym (get_or_past old.list.items other none_kept beyond)
     ])
 
-  pub bodied_settled : new.list.items ≡ with_each kept_synced old.unsettled.items old.list.items → AreBodied (λ number. certain_body (body number)) new
-  bodied_settled done = bodied_all kept_synced certain_body refl (λ kept. refl) (λ kept certain. certain) (λ kept. refl) (λ kept. refl) done
+  pub bodied_settled : new.list.items ≡ with_each kept_synced old.unsettled.items old.list.items → AreBodied (λ number. durable_body (body number)) new
+  bodied_settled done = bodied_all kept_synced durable_body refl (λ kept. refl) (λ kept durable. durable) (λ kept. refl) (λ kept. refl) done
 
   pub bodied_crashed : (pick : ℕ) → new.list.items ≡ with_each (kept_crashed pick) old.unsettled.items old.list.items → AreBodied (λ number. crashed_body pick (body number)) new
-  bodied_crashed pick done = bodied_all (kept_crashed pick) (crashed_body pick) (crashed-certain pick none_kept) (λ kept. crashed-certain pick (kept_crashed pick kept)) (λ kept certain. ap (kept_crashed pick) (sym certain) ∙ crashed-certain pick kept ∙ certain) (λ kept. refl) (λ kept. refl) done
+  bodied_crashed pick done = bodied_all (kept_crashed pick) (crashed_body pick) (crashed-durable pick none_kept) (λ kept. crashed-durable pick (kept_crashed pick kept)) (λ kept durable. ap (kept_crashed pick) (sym durable) ∙ crashed-durable pick kept ∙ durable) (λ kept. refl) (λ kept. refl) done

@@ -8,7 +8,7 @@ use Rattle.std.specs.FinMap as finite
 use Rattle.std.specs.FinMap.{from_entries, get-from_entries, get-insert, same_map, slice_cmp-IsAntisymmetric, nat_cmp-IsAntisymmetric}
 use Rattle.std.proofs.Math.Seq.{drop-cons}
 use Rattle.std.proofs.lemmas.Bool.Decides.{eqb_tells}
-use Rattle.host_calls.specs.Folder.{name_cmp}
+use Rattle.host_calls.specs.Directory.{name_cmp}
 use Rattle.memory_host.specs.Plan.{part_of}
 use Rattle.memory_host.specs.declared.failing_list.Failing.{Failing}
 use Rattle.memory_host.proofs.NamedLemmas.{same_either}

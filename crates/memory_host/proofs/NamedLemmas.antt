@@ -1,4 +1,4 @@
--- Kept names and those of the folder, change after change.
+-- Kept names and those of the directory, change after change.
 use Rattle.std.proofs.Common.{◌≡◌, ◌||◌, ℕ, Bool, true, false, List, [], ◌∷◌, ◌++◌, length, cond, sym, ap, subst, ◌∙◌, refl}
 use Rattle.std.specs.Prelude.{Option, Some, None, map}
 use mathlib.Core.List.{reverse_aux}
@@ -8,9 +8,9 @@ use Rattle.std.specs.Cmp.Lexicographic.{nat_list_cmp_total}
 use Rattle.std.proofs.lemmas.List.Folds.{list_any-append}
 use Rattle.std.specs.FinMap as finite
 use Rattle.std.specs.FinMap.{get-insert, get-remove}
-use Rattle.host_calls.specs.Folder.{Change, Made, Renamed, Removed, Names, name_cmp, changed_names, moved, names_after}
+use Rattle.host_calls.specs.Directory.{Change, Made, Renamed, Removed, Names, name_cmp, changed_names, moved, names_after}
 use Rattle.memory_host.specs.Crash.{is_picked, picked_names}
-use Rattle.memory_host.specs.inside.Table.{Holders, HoldsSameCertain, HoldsSameNow, KeepsPlaces, are_touching, certain_in, changed_at, has_place, meant, moved_at, now_in, pending_of, picked_holders, put_at, touches, where_touched}
+use Rattle.memory_host.specs.inside.Table.{Holders, HoldsSameDurable, HoldsSameNow, KeepsPlaces, are_touching, durable_in, changed_at, has_place, meant, moved_at, now_in, pending_of, picked_holders, put_at, touches, where_touched}
 use Rattle.memory_host.specs.inside.Known.{AreNamesKept}
 use Rattle.memory_host.specs.declared.name_table.NameTable.{NameTable}
 use Rattle.memory_host.specs.declared.pending.Change.{Change as KeptChange}
@@ -74,49 +74,49 @@ changed_at-untouched (Renamed from to) holders name off = moved_at-untouched (ho
 changed_at-untouched (Removed removed) holders name off = rw off refl
 
 -- a name that no pending change touches holds what it certainly holds
-names_after-untouched : (pending : List Change) (certain : Names) (name : List ℕ) → AreUntouched pending name → finite.get (names_after pending certain) name ≡ finite.get certain name
-names_after-untouched [] certain name off = refl
-names_after-untouched (change ∷ older) certain name off =
-    get-changed change (names_after older certain) name
-    ∙ changed_at-untouched change (finite.get (names_after older certain)) name off.0
-    ∙ names_after-untouched older certain name off.1
+names_after-untouched : (pending : List Change) (durable : Names) (name : List ℕ) → AreUntouched pending name → finite.get (names_after pending durable) name ≡ finite.get durable name
+names_after-untouched [] durable name off = refl
+names_after-untouched (change ∷ older) durable name off =
+    get-changed change (names_after older durable) name
+    ∙ changed_at-untouched change (finite.get (names_after older durable)) name off.0
+    ∙ names_after-untouched older durable name off.1
 
 -- the names after those changes that are picked, by look-ups
-get-picked : (pick : ℕ) (pending : List Change) (certain : Names) (holders : Holders) → ((name : List ℕ) → finite.get certain name ≡ holders name) → (name : List ℕ) → finite.get (picked_names pick pending certain) name ≡ picked_holders pick pending holders name
-get-picked pick [] certain holders same name = same name
-get-picked pick (change ∷ older) certain holders same name = by_pick (is_picked pick (length older)) (get-picked pick older certain holders same) where
-  by_pick : (b : Bool) → ((other : List ℕ) → finite.get (picked_names pick older certain) other ≡ picked_holders pick older holders other) → finite.get (cond b (changed_names change (picked_names pick older certain)) (picked_names pick older certain)) name ≡ cond b (changed_at change (picked_holders pick older holders)) (picked_holders pick older holders) name
+get-picked : (pick : ℕ) (pending : List Change) (durable : Names) (holders : Holders) → ((name : List ℕ) → finite.get durable name ≡ holders name) → (name : List ℕ) → finite.get (picked_names pick pending durable) name ≡ picked_holders pick pending holders name
+get-picked pick [] durable holders same name = same name
+get-picked pick (change ∷ older) durable holders same name = by_pick (is_picked pick (length older)) (get-picked pick older durable holders same) where
+  by_pick : (b : Bool) → ((other : List ℕ) → finite.get (picked_names pick older durable) other ≡ picked_holders pick older holders other) → finite.get (cond b (changed_names change (picked_names pick older durable)) (picked_names pick older durable)) name ≡ cond b (changed_at change (picked_holders pick older holders)) (picked_holders pick older holders) name
   by_pick true rest =
-      get-changed change (picked_names pick older certain) name
-      ∙ changed_at-alike change (finite.get (picked_names pick older certain)) (picked_holders pick older holders) rest name
+      get-changed change (picked_names pick older durable) name
+      ∙ changed_at-alike change (finite.get (picked_names pick older durable)) (picked_holders pick older holders) rest name
   by_pick false rest = rest name
 
-picked-untouched : (pick : ℕ) (pending : List Change) (certain : Names) (name : List ℕ) → AreUntouched pending name → finite.get (picked_names pick pending certain) name ≡ finite.get certain name
-picked-untouched pick [] certain name off = refl
-picked-untouched pick (change ∷ older) certain name off = by_pick (is_picked pick (length older)) (picked-untouched pick older certain name off.1) where
-  by_pick : (b : Bool) → finite.get (picked_names pick older certain) name ≡ finite.get certain name → finite.get (cond b (changed_names change (picked_names pick older certain)) (picked_names pick older certain)) name ≡ finite.get certain name
-  by_pick true rest = get-changed change (picked_names pick older certain) name ∙ changed_at-untouched change (finite.get (picked_names pick older certain)) name off.0 ∙ rest
+picked-untouched : (pick : ℕ) (pending : List Change) (durable : Names) (name : List ℕ) → AreUntouched pending name → finite.get (picked_names pick pending durable) name ≡ finite.get durable name
+picked-untouched pick [] durable name off = refl
+picked-untouched pick (change ∷ older) durable name off = by_pick (is_picked pick (length older)) (picked-untouched pick older durable name off.1) where
+  by_pick : (b : Bool) → finite.get (picked_names pick older durable) name ≡ finite.get durable name → finite.get (cond b (changed_names change (picked_names pick older durable)) (picked_names pick older durable)) name ≡ finite.get durable name
+  by_pick true rest = get-changed change (picked_names pick older durable) name ∙ changed_at-untouched change (finite.get (picked_names pick older durable)) name off.0 ∙ rest
   by_pick false rest = rest
 
 -- The table after each kind of step.
 
-module _ (certain : Names) (pending : List Change) (old new : NameTable) (is : AreNamesKept certain pending old) where
+module _ (durable : Names) (pending : List Change) (old new : NameTable) (is : AreNamesKept durable pending old) where
   -- a table that holds the same
-  pub named_same : HoldsSameNow old.held new.held → HoldsSameCertain old.held new.held → new.pending.items ≡ old.pending.items → ((name : List ℕ) → has_place old.held name ≡ true → has_place new.held name ≡ true) → AreNamesKept certain pending new
-  named_same same_now same_certain same_pending stays = record {
-    certain_names = λ name. is.certain_names name ∙ sym (same_certain name);
+  pub named_same : HoldsSameNow old.held new.held → HoldsSameDurable old.held new.held → new.pending.items ≡ old.pending.items → ((name : List ℕ) → has_place old.held name ≡ true → has_place new.held name ≡ true) → AreNamesKept durable pending new
+  named_same same_now same_durable same_pending stays = record {
+    durable_names = λ name. is.durable_names name ∙ sym (same_durable name);
     now_names = λ name. is.now_names name ∙ sym (same_now name);
     changes = is.changes ∙ ap pending_of (sym same_pending);
     places = λ name touched. stays name (is.places name (ap (λ changes. are_touching changes name) (sym same_pending) ∙ touched));
   }
 
   -- one change more
-  pub named_change : (change : KeptChange) → ((name : List ℕ) → now_in new.held name ≡ changed_at (meant change) (now_in old.held) name) → HoldsSameCertain old.held new.held → KeepsPlaces old.held new.held → ((name : List ℕ) → touches change name ≡ true → has_place old.held name ≡ true) → new.pending.items ≡ old.pending.items ++ change ∷ [] → AreNamesKept certain (meant change ∷ pending) new
-  named_change change now same_certain same_places has pushed = record {
-    certain_names = λ name. is.certain_names name ∙ sym (same_certain name);
+  pub named_change : (change : KeptChange) → ((name : List ℕ) → now_in new.held name ≡ changed_at (meant change) (now_in old.held) name) → HoldsSameDurable old.held new.held → KeepsPlaces old.held new.held → ((name : List ℕ) → touches change name ≡ true → has_place old.held name ≡ true) → new.pending.items ≡ old.pending.items ++ change ∷ [] → AreNamesKept durable (meant change ∷ pending) new
+  named_change change now same_durable same_places has pushed = record {
+    durable_names = λ name. is.durable_names name ∙ sym (same_durable name);
     now_names = λ name.
-        get-changed (meant change) (names_after pending certain) name
-        ∙ changed_at-alike (meant change) (finite.get (names_after pending certain)) (now_in old.held) is.now_names name
+        get-changed (meant change) (names_after pending durable) name
+        ∙ changed_at-alike (meant change) (finite.get (names_after pending durable)) (now_in old.held) is.now_names name
         ∙ sym (now name);
     changes = ap (λ older. meant change ∷ older) is.changes ∙ sym (pending_of-push old.pending.items change) ∙ ap pending_of (sym pushed);
     places = λ name touched. same_places name ∙ by_cases name (are_touching old.pending.items name) (touches change name) refl refl (split name touched);
@@ -129,30 +129,30 @@ module _ (certain : Names) (pending : List Change) (old new : NameTable) (is : A
     by_cases name false true first second either = has name second
     by_cases name false false first second either = cc
 
-  -- all names were made certain
-  pub named_sync : HoldsSameNow old.held new.held → ((name : List ℕ) → certain_in new.held name ≡ where_touched old.pending.items (now_in old.held) (certain_in old.held) name) → new.pending.items ≡ [] → AreNamesKept (names_after pending certain) [] new
+  -- all names were synced
+  pub named_sync : HoldsSameNow old.held new.held → ((name : List ℕ) → durable_in new.held name ≡ where_touched old.pending.items (now_in old.held) (durable_in old.held) name) → new.pending.items ≡ [] → AreNamesKept (names_after pending durable) [] new
   named_sync same_now made none = record {
-    certain_names = λ name. is.now_names name ∙ sym (made name ∙ agree name);
+    durable_names = λ name. is.now_names name ∙ sym (made name ∙ agree name);
     now_names = λ name. is.now_names name ∙ sym (same_now name);
     changes = ap pending_of (sym none);
     places = λ name touched. absurd_of name (ap (λ changes. are_touching changes name) (sym none) ∙ touched);
   } where
-    agree : (name : List ℕ) → where_touched old.pending.items (now_in old.held) (certain_in old.held) name ≡ now_in old.held name
+    agree : (name : List ℕ) → where_touched old.pending.items (now_in old.held) (durable_in old.held) name ≡ now_in old.held name
     agree name = by_case (are_touching old.pending.items name) refl where
-      by_case : (b : Bool) → are_touching old.pending.items name ≡ b → cond b (now_in old.held name) (certain_in old.held name) ≡ now_in old.held name
+      by_case : (b : Bool) → are_touching old.pending.items name ≡ b → cond b (now_in old.held name) (durable_in old.held name) ≡ now_in old.held name
       by_case true e = refl
       by_case false e =
-          sym (is.certain_names name)
-          ∙ sym (names_after-untouched pending certain name (subst (λ changes. AreUntouched changes name) (sym is.changes) (untouched old.pending.items name e)))
+          sym (is.durable_names name)
+          ∙ sym (names_after-untouched pending durable name (subst (λ changes. AreUntouched changes name) (sym is.changes) (untouched old.pending.items name e)))
           ∙ is.now_names name
 
     absurd_of : (name : List ℕ) → are_touching [] name ≡ true → has_place new.held name ≡ true
     absurd_of name e = cc
 
   -- the changes that are picked were made
-  pub named_crash : (pick : ℕ) → ((name : List ℕ) → now_in new.held name ≡ picked_holders pick (pending_of old.pending.items) (where_touched old.pending.items (certain_in old.held) (now_in old.held)) name) → ((name : List ℕ) → certain_in new.held name ≡ where_touched old.pending.items (now_in new.held) (certain_in old.held) name) → new.pending.items ≡ [] → AreNamesKept (picked_names pick pending certain) [] new
+  pub named_crash : (pick : ℕ) → ((name : List ℕ) → now_in new.held name ≡ picked_holders pick (pending_of old.pending.items) (where_touched old.pending.items (durable_in old.held) (now_in old.held)) name) → ((name : List ℕ) → durable_in new.held name ≡ where_touched old.pending.items (now_in new.held) (durable_in old.held) name) → new.pending.items ≡ [] → AreNamesKept (picked_names pick pending durable) [] new
   named_crash pick now made none = record {
-    certain_names = λ name. sym (made name ∙ agree name);
+    durable_names = λ name. sym (made name ∙ agree name);
     now_names = picked;
     changes = ap pending_of (sym none);
     places = λ name touched. absurd_of name (ap (λ changes. are_touching changes name) (sym none) ∙ touched);
@@ -160,23 +160,23 @@ module _ (certain : Names) (pending : List Change) (old new : NameTable) (is : A
     free : (name : List ℕ) → are_touching old.pending.items name ≡ false → AreUntouched pending name
     free name e = subst (λ changes. AreUntouched changes name) (sym is.changes) (untouched old.pending.items name e)
 
-    start : (name : List ℕ) → finite.get certain name ≡ where_touched old.pending.items (certain_in old.held) (now_in old.held) name
+    start : (name : List ℕ) → finite.get durable name ≡ where_touched old.pending.items (durable_in old.held) (now_in old.held) name
     start name = by_case (are_touching old.pending.items name) refl where
-      by_case : (b : Bool) → are_touching old.pending.items name ≡ b → finite.get certain name ≡ cond b (certain_in old.held name) (now_in old.held name)
-      by_case true e = is.certain_names name
-      by_case false e = sym (names_after-untouched pending certain name (free name e)) ∙ is.now_names name
+      by_case : (b : Bool) → are_touching old.pending.items name ≡ b → finite.get durable name ≡ cond b (durable_in old.held name) (now_in old.held name)
+      by_case true e = is.durable_names name
+      by_case false e = sym (names_after-untouched pending durable name (free name e)) ∙ is.now_names name
 
-    picked : (name : List ℕ) → finite.get (picked_names pick pending certain) name ≡ now_in new.held name
+    picked : (name : List ℕ) → finite.get (picked_names pick pending durable) name ≡ now_in new.held name
     picked name =
-        get-picked pick pending certain (where_touched old.pending.items (certain_in old.held) (now_in old.held)) start name
-        ∙ ap (λ changes. picked_holders pick changes (where_touched old.pending.items (certain_in old.held) (now_in old.held)) name) is.changes
+        get-picked pick pending durable (where_touched old.pending.items (durable_in old.held) (now_in old.held)) start name
+        ∙ ap (λ changes. picked_holders pick changes (where_touched old.pending.items (durable_in old.held) (now_in old.held)) name) is.changes
         ∙ sym (now name)
 
-    agree : (name : List ℕ) → where_touched old.pending.items (now_in new.held) (certain_in old.held) name ≡ finite.get (picked_names pick pending certain) name
+    agree : (name : List ℕ) → where_touched old.pending.items (now_in new.held) (durable_in old.held) name ≡ finite.get (picked_names pick pending durable) name
     agree name = by_case (are_touching old.pending.items name) refl where
-      by_case : (b : Bool) → are_touching old.pending.items name ≡ b → cond b (now_in new.held name) (certain_in old.held name) ≡ finite.get (picked_names pick pending certain) name
+      by_case : (b : Bool) → are_touching old.pending.items name ≡ b → cond b (now_in new.held name) (durable_in old.held name) ≡ finite.get (picked_names pick pending durable) name
       by_case true e = sym (picked name)
-      by_case false e = sym (is.certain_names name) ∙ sym (picked-untouched pick pending certain name (free name e))
+      by_case false e = sym (is.durable_names name) ∙ sym (picked-untouched pick pending durable name (free name e))
 
     absurd_of : (name : List ℕ) → are_touching [] name ≡ true → has_place new.held name ≡ true
     absurd_of name e = cc

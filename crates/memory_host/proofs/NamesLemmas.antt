@@ -13,8 +13,8 @@ use Rattle.std.specs.FinMap as finite
 use Rattle.std.specs.FinMap.{entries, find, is_sorted, from_sorted, get-entries, get-from_sorted, entries-from_sorted, entries_sorted, same_map, slice_cmp-IsAntisymmetric, nat_cmp-IsAntisymmetric}
 use Rattle.std.specs.FinMap.Entries.{below_all, where_key, is_sorted-where_key}
 use Rattle.std.proofs.Math.Dec.{T}
-use Rattle.host_calls.specs.Folder.{Folder, name_cmp, names_of, reading_of}
-use Rattle.host_calls.proofs.FolderLemmas.{get-files_of}
+use Rattle.host_calls.specs.Directory.{Directory, name_cmp, names_of, reading_of}
+use Rattle.host_calls.proofs.DirectoryLemmas.{get-files_of}
 use Rattle.memory_host.specs.declared.held.Held.{Held}
 use Rattle.memory_host.specs.inside.Table.{HeldNames, now_in, now_names, now_part}
 use Rattle.memory_host.proofs.TableLemmas.{same_name}
@@ -117,16 +117,16 @@ module _ (held : HeldNames) (found : All (λ entry. get name_cmp held entry.0 �
       ap is_some (find-lookup name (where_key name_cmp by_name held.entries) ∙ lookup-filter-keys (is_at (name_cmp name)) by_name (by_name name) (λ other same. ap by_name (sym (same_name name other same))) held.entries)
       ∙ now_found (get name_cmp held name)
 
-  -- the names that the table holds now are those of the folder
-  pub names_known : (folder : Folder) → IsOrdered name_cmp held → ((name : List ℕ) → finite.get (names_of folder) name ≡ now_in held name) → now_names held.entries ≡ finite.keys (reading_of folder)
-  names_known folder ordered same =
+  -- the names that the table holds now are those of the directory
+  pub names_known : (directory : Directory) → IsOrdered name_cmp held → ((name : List ℕ) → finite.get (names_of directory) name ≡ now_in held name) → now_names held.entries ≡ finite.keys (reading_of directory)
+  names_known directory ordered same =
       ap (map (λ entry. entry.0)) (filter-by_name held.entries found)
-      ∙ same_keys (where_key name_cmp by_name held.entries) (entries (reading_of folder)) (is_sorted-where_key name_cmp by_name held.entries (sorted_from held.entries ordered)) (entries_sorted (reading_of folder)) (λ name.
+      ∙ same_keys (where_key name_cmp by_name held.entries) (entries (reading_of directory)) (is_sorted-where_key name_cmp by_name held.entries (sorted_from held.entries ordered)) (entries_sorted (reading_of directory)) (λ name.
       find-now name
       ∙ ap is_some (sym (same name))
-      ∙ sym (is_some-mapped (finite.get (names_of folder) name))
-      ∙ ap is_some (sym (get-files_of folder.body (names_of folder) name))
-      ∙ ap is_some (get-entries (reading_of folder) name)) where
-        is_some-mapped : (held : Option ℕ) → is_some (option_map (λ number. (folder.body number).bytes) held) ≡ is_some held
+      ∙ sym (is_some-mapped (finite.get (names_of directory) name))
+      ∙ ap is_some (sym (get-files_of directory.body (names_of directory) name))
+      ∙ ap is_some (get-entries (reading_of directory) name)) where
+        is_some-mapped : (held : Option ℕ) → is_some (option_map (λ number. (directory.body number).bytes) held) ≡ is_some held
         is_some-mapped None = refl
         is_some-mapped (Some number) = refl

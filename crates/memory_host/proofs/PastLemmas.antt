@@ -1,22 +1,22 @@
--- One call more in the past.
+-- One more call in the past.
 use Rattle.std.proofs.Common.{◌≡◌, ◌+◌, ◌<◌, ◌≤◌, ℕ, List, [], ◌∷◌, ◌++◌, length, sym, ap, subst, ◌∙◌, refl, arith, length-append}
 use Rattle.std.specs.Prelude.{Bool, true, Some, None, IsSome, IsSomeAnd, is_some, option_map}
 use Rattle.std.specs.FinMap as finite
 use Rattle.host_calls.specs.declared.child.Handed.{Handed}
-use Rattle.host_calls.specs.Folder.{Made, Renamed, Removed, names_of, IsFresh, IsHeldAt, made_body, reading_of, settled, with_body, with_changed, with_change, with_names_certain, written_body, certain_body}
-use Rattle.host_calls.proofs.FolderLemmas.{all_are_some, get-files_of}
+use Rattle.host_calls.specs.Directory.{Made, Renamed, Removed, names_of, IsFresh, IsHeldAt, made_body, reading_of, settled, with_body, with_changed, with_change, with_names_durable, written_body, durable_body}
+use Rattle.host_calls.proofs.DirectoryLemmas.{all_are_some, get-files_of}
 use Rattle.host_calls.specs.World.{IsWithinFile}
 use Rattle.memory_host.specs.inside.Bodies.{body_of, kept_at, kept_made, kept_written, kept_synced, kept_crashed, none_kept, with_kept, with_each}
 use Rattle.memory_host.specs.Crash.{picked_names, rebooted}
-use Rattle.memory_host.specs.Past.{History, State, CallLog, after_call, history_of, with_call, with_calls, with_folder, with_handed, with_new_file}
+use Rattle.memory_host.specs.Past.{History, State, CallLog, after_call, history_of, with_call, with_calls, with_directory, with_handed, with_new_file}
 use Rattle.memory_host.specs.inside.Story.{state_of, with_next}
-use Rattle.memory_host.specs.inside.Table.{HoldsSameCertain, HoldsSameNow, KeepsPlaces, certain_in, changed_at, has_place, meant, now_in, pending_of, picked_holders, touches, where_touched}
+use Rattle.memory_host.specs.inside.Table.{HoldsSameDurable, HoldsSameNow, KeepsPlaces, durable_in, changed_at, has_place, meant, now_in, pending_of, picked_holders, touches, where_touched}
 use Rattle.memory_host.specs.inside.Known.{AreBodied, ListsUnsettled, AreNamesKept, IsStateKept}
 use Rattle.memory_host.specs.declared.bodies.Bodies.{Bodies}
 use Rattle.memory_host.specs.declared.name_table.NameTable.{NameTable}
 use Rattle.memory_host.specs.declared.past_call.PastCall.{PastCall}
 use Rattle.memory_host.specs.declared.pending.Change.TheVariants as kept
-use Rattle.memory_host.proofs.BodiedLemmas.{crashed-certain, bodied_crashed, bodied_made, bodied_settled, bodied_synced, bodied_written, length-with_each, length-with_kept}
+use Rattle.memory_host.proofs.BodiedLemmas.{crashed-durable, bodied_crashed, bodied_made, bodied_settled, bodied_synced, bodied_written, length-with_each, length-with_kept}
 use Rattle.memory_host.proofs.NamedLemmas.{named_change, named_crash, named_same, named_sync}
 use Rattle.memory_host.proofs.SoundLemmas.{picked_chosen, sound_change, sound_chosen}
 
@@ -24,12 +24,12 @@ with_calls-push : (calls : List PastCall) (call : PastCall) (past : History) →
 with_calls-push [] call past = refl
 with_calls-push (first ∷ later) call past = with_calls-push later call (with_call first past)
 
--- one call more is one moment more
+-- one more call is one more moment
 pub history_next : (call : PastCall) (story : CallLog) → history_of (with_next call story) ≡ with_call call (history_of story)
 unfolding history_of
 history_next call story = with_calls-push story.calls call _
 
--- what is kept after one call more
+-- what is kept after one more call
 pub known_next : (call : PastCall) (story : CallLog) (before calls : List PastCall) (names : NameTable) (bodies : Bodies) (handed : List Handed) → calls ≡ before ++ call ∷ [] → before ≡ story.calls → IsStateKept (after_call call (state_of story)) names bodies handed → IsStateKept (state_of (record { opening = story.opening; calls = calls })) names bodies handed
 known_next call story before calls names bodies handed more same_before is =
     let same : state_of (record { opening = story.opening; calls = calls }) ≡ after_call call (state_of story) =
@@ -44,33 +44,33 @@ known_kept story calls names bodies handed same is = subst (λ all. IsStateKept 
 
 module _ (at : State) (names : NameTable) (bodies : Bodies) (handed : List Handed) (is : IsStateKept at names bodies handed) where
   -- the number that the table holds is held by the name alone
-  pub held_at : (name : List ℕ) (number : ℕ) → now_in names.held name ≡ Some number → IsHeldAt (names_of at.folder) name number
+  pub held_at : (name : List ℕ) (number : ℕ) → now_in names.held name ≡ Some number → IsHeldAt (names_of at.directory) name number
   held_at name number found =
-      let held : finite.get (names_of at.folder) name ≡ Some number = is.named.now_names name ∙ found in
-      record { held = held; alone = λ other also. is.sound.apart (names_of at.folder) (all_are_some at.folder.pending at.folder.certain) other name number also held }
+      let held : finite.get (names_of at.directory) name ≡ Some number = is.named.now_names name ∙ found in
+      record { held = held; alone = λ other also. is.sound.apart (names_of at.directory) (all_are_some at.directory.pending at.directory.durable) other name number also held }
 
   -- the number is that of a body
-  pub number_known : (name : List ℕ) (number : ℕ) → IsHeldAt (names_of at.folder) name number → number < length bodies.list.items
-  number_known name number held = subst (λ n. number < n) is.counted (is.sound.below (names_of at.folder) (all_are_some at.folder.pending at.folder.certain) name number held.held)
+  pub number_known : (name : List ℕ) (number : ℕ) → IsHeldAt (names_of at.directory) name number → number < length bodies.list.items
+  number_known name number held = subst (λ n. number < n) is.counted (is.sound.below (names_of at.directory) (all_are_some at.directory.pending at.directory.durable) name number held.held)
 
   -- the bytes of the body are what the file reads as
-  pub reading_known : (name : List ℕ) (number : ℕ) → IsHeldAt (names_of at.folder) name number → finite.get (reading_of at.folder) name ≡ Some (kept_at bodies.list.items number).bytes
-  reading_known name number held = get-files_of at.folder.body (names_of at.folder) name ∙ ap (option_map (λ n. (at.folder.body n).bytes)) held.held ∙ ap (λ body. Some body.bytes) (is.bodied.each number)
+  pub reading_known : (name : List ℕ) (number : ℕ) → IsHeldAt (names_of at.directory) name number → finite.get (reading_of at.directory) name ≡ Some (kept_at bodies.list.items number).bytes
+  reading_known name number held = get-files_of at.directory.body (names_of at.directory) name ∙ ap (option_map (λ n. (at.directory.body n).bytes)) held.held ∙ ap (λ body. Some body.bytes) (is.bodied.each number)
 
   -- a name that holds nothing has no file
-  pub none_known : (name : List ℕ) → now_in names.held name ≡ None → finite.get (reading_of at.folder) name ≡ None
-  none_known name none = get-files_of at.folder.body (names_of at.folder) name ∙ ap (option_map (λ n. (at.folder.body n).bytes)) (is.named.now_names name ∙ none)
+  pub none_known : (name : List ℕ) → now_in names.held name ≡ None → finite.get (reading_of at.directory) name ≡ None
+  none_known name none = get-files_of at.directory.body (names_of at.directory) name ∙ ap (option_map (λ n. (at.directory.body n).bytes)) (is.named.now_names name ∙ none)
 
-  -- so a file that is there is held
-  pub held_known : (name : List ℕ) → IsSome (finite.get (reading_of at.folder) name) → ¬ (now_in names.held name ≡ None)
-  held_known name there none = let same : finite.get (reading_of at.folder) name ≡ None = none_known name none in let found : is_some (finite.get (reading_of at.folder) name) ≡ true = there in cc
+  -- so a file that exists is held
+  pub held_known : (name : List ℕ) → IsSome (finite.get (reading_of at.directory) name) → ¬ (now_in names.held name ≡ None)
+  held_known name there none = let same : finite.get (reading_of at.directory) name ≡ None = none_known name none in let found : is_some (finite.get (reading_of at.directory) name) ≡ true = there in cc
 
   -- the range lies within the body
-  pub within_known : (name : List ℕ) (number offset count : ℕ) → IsHeldAt (names_of at.folder) name number → IsWithinFile (reading_of at.folder) name offset count → offset + count ≤ length (kept_at bodies.list.items number).bytes
+  pub within_known : (name : List ℕ) (number offset count : ℕ) → IsHeldAt (names_of at.directory) name number → IsWithinFile (reading_of at.directory) name offset count → offset + count ≤ length (kept_at bodies.list.items number).bytes
   within_known name number offset count held within = subst (λ file. IsSomeAnd file (λ bytes. offset + count ≤ length bytes)) (reading_known name number held) within
 
   -- the next number is fresh
-  pub fresh_known : IsFresh at.folder at.next
+  pub fresh_known : IsFresh at.directory at.next
   fresh_known chosen is_chosen name found = let small : at.next < at.next = is.sound.below chosen is_chosen name at.next found in absurd (omega arith)
 
 -- bodies that hold the same
@@ -90,9 +90,9 @@ known_alike at names bodies more handed is list unsettled = record {
 
 module _ (at : State) (names after : NameTable) (bodies more : Bodies) (handed : List Handed) (is : IsStateKept at names bodies handed) where
   -- a table that holds the same
-  pub known_same : HoldsSameNow names.held after.held → HoldsSameCertain names.held after.held → after.pending.items ≡ names.pending.items → ((name : List ℕ) → has_place names.held name ≡ true → has_place after.held name ≡ true) → IsStateKept at after bodies handed
-  known_same now certain pending places = record {
-    named = named_same at.folder.certain at.folder.pending names after is.named now certain pending places;
+  pub known_same : HoldsSameNow names.held after.held → HoldsSameDurable names.held after.held → after.pending.items ≡ names.pending.items → ((name : List ℕ) → has_place names.held name ≡ true → has_place after.held name ≡ true) → IsStateKept at after bodies handed
+  known_same now durable pending places = record {
+    named = named_same at.directory.durable at.directory.pending names after is.named now durable pending places;
     bodied = is.bodied;
     counted = is.counted;
     scripts = is.scripts;
@@ -100,93 +100,93 @@ module _ (at : State) (names after : NameTable) (bodies more : Bodies) (handed :
   }
 
   -- a file was made
-  pub known_made : (name bytes : List ℕ) (number : ℕ) → number ≡ length bodies.list.items → ((other : List ℕ) → now_in after.held other ≡ changed_at (meant (kept.Made name number)) (now_in names.held) other) → HoldsSameCertain names.held after.held → KeepsPlaces names.held after.held → ((other : List ℕ) → touches (kept.Made name number) other ≡ true → has_place names.held other ≡ true) → after.pending.items ≡ names.pending.items ++ kept.Made name number ∷ [] → more.list.items ≡ bodies.list.items ++ kept_made bytes ∷ [] → more.unsettled.items ≡ bodies.unsettled.items ++ length bodies.list.items ∷ [] → IsStateKept (with_new_file name bytes at) after more handed
-  known_made name bytes number is_next now certain places has pending list unsettled =
+  pub known_made : (name bytes : List ℕ) (number : ℕ) → number ≡ length bodies.list.items → ((other : List ℕ) → now_in after.held other ≡ changed_at (meant (kept.Made name number)) (now_in names.held) other) → HoldsSameDurable names.held after.held → KeepsPlaces names.held after.held → ((other : List ℕ) → touches (kept.Made name number) other ≡ true → has_place names.held other ≡ true) → after.pending.items ≡ names.pending.items ++ kept.Made name number ∷ [] → more.list.items ≡ bodies.list.items ++ kept_made bytes ∷ [] → more.unsettled.items ≡ bodies.unsettled.items ++ length bodies.list.items ∷ [] → IsStateKept (with_new_file name bytes at) after more handed
+  known_made name bytes number is_next now durable places has pending list unsettled =
       let same : number ≡ at.next = is_next ∙ sym is.counted in
       record {
-        named = subst (λ n. AreNamesKept at.folder.certain (Made name n ∷ at.folder.pending) after) same (named_change at.folder.certain at.folder.pending names after is.named (kept.Made name number) now certain places has pending);
-        bodied = subst (λ n. AreBodied (with_body at.folder.body n (made_body bytes)) more) (sym is.counted) (bodied_made at.folder.body bodies more is.bodied bytes list unsettled);
+        named = subst (λ n. AreNamesKept at.directory.durable (Made name n ∷ at.directory.pending) after) same (named_change at.directory.durable at.directory.pending names after is.named (kept.Made name number) now durable places has pending);
+        bodied = subst (λ n. AreBodied (with_body at.directory.body n (made_body bytes)) more) (sym is.counted) (bodied_made at.directory.body bodies more is.bodied bytes list unsettled);
         counted = ap (λ n. n + 1) is.counted ∙ sym (ap length list ∙ length-append bodies.list.items (kept_made bytes ∷ []));
         scripts = is.scripts;
-        sound = sound_change at.folder.certain at.folder.pending at.next (Made name at.next) refl is.sound;
+        sound = sound_change at.directory.durable at.directory.pending at.next (Made name at.next) refl is.sound;
       }
 
   -- a name was moved or removed
-  pub known_renamed : (from to : List ℕ) → ((other : List ℕ) → now_in after.held other ≡ changed_at (meant (kept.Renamed from to)) (now_in names.held) other) → HoldsSameCertain names.held after.held → KeepsPlaces names.held after.held → ((other : List ℕ) → touches (kept.Renamed from to) other ≡ true → has_place names.held other ≡ true) → after.pending.items ≡ names.pending.items ++ kept.Renamed from to ∷ [] → IsStateKept (with_folder (with_change (Renamed from to) at.folder) at) after bodies handed
-  known_renamed from to now certain places has pending = record {
-    named = named_change at.folder.certain at.folder.pending names after is.named (kept.Renamed from to) now certain places has pending;
+  pub known_renamed : (from to : List ℕ) → ((other : List ℕ) → now_in after.held other ≡ changed_at (meant (kept.Renamed from to)) (now_in names.held) other) → HoldsSameDurable names.held after.held → KeepsPlaces names.held after.held → ((other : List ℕ) → touches (kept.Renamed from to) other ≡ true → has_place names.held other ≡ true) → after.pending.items ≡ names.pending.items ++ kept.Renamed from to ∷ [] → IsStateKept (with_directory (with_change (Renamed from to) at.directory) at) after bodies handed
+  known_renamed from to now durable places has pending = record {
+    named = named_change at.directory.durable at.directory.pending names after is.named (kept.Renamed from to) now durable places has pending;
     bodied = is.bodied;
     counted = is.counted;
     scripts = is.scripts;
-    sound = sound_change at.folder.certain at.folder.pending at.next (Renamed from to) tt is.sound;
+    sound = sound_change at.directory.durable at.directory.pending at.next (Renamed from to) tt is.sound;
   }
 
-  pub known_removed : (name : List ℕ) → ((other : List ℕ) → now_in after.held other ≡ changed_at (meant (kept.Removed name)) (now_in names.held) other) → HoldsSameCertain names.held after.held → KeepsPlaces names.held after.held → ((other : List ℕ) → touches (kept.Removed name) other ≡ true → has_place names.held other ≡ true) → after.pending.items ≡ names.pending.items ++ kept.Removed name ∷ [] → IsStateKept (with_folder (with_change (Removed name) at.folder) at) after bodies handed
-  known_removed name now certain places has pending = record {
-    named = named_change at.folder.certain at.folder.pending names after is.named (kept.Removed name) now certain places has pending;
+  pub known_removed : (name : List ℕ) → ((other : List ℕ) → now_in after.held other ≡ changed_at (meant (kept.Removed name)) (now_in names.held) other) → HoldsSameDurable names.held after.held → KeepsPlaces names.held after.held → ((other : List ℕ) → touches (kept.Removed name) other ≡ true → has_place names.held other ≡ true) → after.pending.items ≡ names.pending.items ++ kept.Removed name ∷ [] → IsStateKept (with_directory (with_change (Removed name) at.directory) at) after bodies handed
+  known_removed name now durable places has pending = record {
+    named = named_change at.directory.durable at.directory.pending names after is.named (kept.Removed name) now durable places has pending;
     bodied = is.bodied;
     counted = is.counted;
     scripts = is.scripts;
-    sound = sound_change at.folder.certain at.folder.pending at.next (Removed name) tt is.sound;
+    sound = sound_change at.directory.durable at.directory.pending at.next (Removed name) tt is.sound;
   }
 
   -- the names were synced
-  pub known_names : HoldsSameNow names.held after.held → ((name : List ℕ) → certain_in after.held name ≡ where_touched names.pending.items (now_in names.held) (certain_in names.held) name) → after.pending.items ≡ [] → IsStateKept (with_folder (with_names_certain at.folder) at) after bodies handed
-  known_names now certain none = record {
-    named = named_sync at.folder.certain at.folder.pending names after is.named now certain none;
+  pub known_names : HoldsSameNow names.held after.held → ((name : List ℕ) → durable_in after.held name ≡ where_touched names.pending.items (now_in names.held) (durable_in names.held) name) → after.pending.items ≡ [] → IsStateKept (with_directory (with_names_durable at.directory) at) after bodies handed
+  known_names now durable none = record {
+    named = named_sync at.directory.durable at.directory.pending names after is.named now durable none;
     bodied = is.bodied;
     counted = is.counted;
     scripts = is.scripts;
-    sound = sound_chosen at.folder.certain at.folder.pending at.next (names_of at.folder) (all_are_some at.folder.pending at.folder.certain) is.sound;
+    sound = sound_chosen at.directory.durable at.directory.pending at.next (names_of at.directory) (all_are_some at.directory.pending at.directory.durable) is.sound;
   }
 
   -- all was synced
-  pub known_settled : HoldsSameNow names.held after.held → ((name : List ℕ) → certain_in after.held name ≡ where_touched names.pending.items (now_in names.held) (certain_in names.held) name) → after.pending.items ≡ [] → more.list.items ≡ with_each kept_synced bodies.unsettled.items bodies.list.items → IsStateKept (with_folder (settled at.folder) at) after more handed
-  known_settled now certain none done = record {
-    named = named_sync at.folder.certain at.folder.pending names after is.named now certain none;
-    bodied = bodied_settled at.folder.body bodies more is.bodied done;
+  pub known_settled : HoldsSameNow names.held after.held → ((name : List ℕ) → durable_in after.held name ≡ where_touched names.pending.items (now_in names.held) (durable_in names.held) name) → after.pending.items ≡ [] → more.list.items ≡ with_each kept_synced bodies.unsettled.items bodies.list.items → IsStateKept (with_directory (settled at.directory) at) after more handed
+  known_settled now durable none done = record {
+    named = named_sync at.directory.durable at.directory.pending names after is.named now durable none;
+    bodied = bodied_settled at.directory.body bodies more is.bodied done;
     counted = is.counted ∙ sym (ap length done ∙ length-with_each kept_synced refl bodies.unsettled.items bodies.list.items);
     scripts = is.scripts;
-    sound = sound_chosen at.folder.certain at.folder.pending at.next (names_of at.folder) (all_are_some at.folder.pending at.folder.certain) is.sound;
+    sound = sound_chosen at.directory.durable at.directory.pending at.next (names_of at.directory) (all_are_some at.directory.pending at.directory.durable) is.sound;
   }
 
-  -- the folder crashed
-  pub known_crashed : (pick : ℕ) → ((name : List ℕ) → now_in after.held name ≡ picked_holders pick (pending_of names.pending.items) (where_touched names.pending.items (certain_in names.held) (now_in names.held)) name) → ((name : List ℕ) → certain_in after.held name ≡ where_touched names.pending.items (now_in after.held) (certain_in names.held) name) → after.pending.items ≡ [] → more.list.items ≡ with_each (kept_crashed pick) bodies.unsettled.items bodies.list.items → IsStateKept (with_folder (rebooted pick at.folder) at) after more handed
-  known_crashed pick now certain none done = record {
-    named = named_crash at.folder.certain at.folder.pending names after is.named pick now certain none;
-    bodied = bodied_crashed at.folder.body bodies more is.bodied pick done;
-    counted = is.counted ∙ sym (ap length done ∙ length-with_each (kept_crashed pick) (crashed-certain pick none_kept) bodies.unsettled.items bodies.list.items);
+  -- the directory crashed
+  pub known_crashed : (pick : ℕ) → ((name : List ℕ) → now_in after.held name ≡ picked_holders pick (pending_of names.pending.items) (where_touched names.pending.items (durable_in names.held) (now_in names.held)) name) → ((name : List ℕ) → durable_in after.held name ≡ where_touched names.pending.items (now_in after.held) (durable_in names.held) name) → after.pending.items ≡ [] → more.list.items ≡ with_each (kept_crashed pick) bodies.unsettled.items bodies.list.items → IsStateKept (with_directory (rebooted pick at.directory) at) after more handed
+  known_crashed pick now durable none done = record {
+    named = named_crash at.directory.durable at.directory.pending names after is.named pick now durable none;
+    bodied = bodied_crashed at.directory.body bodies more is.bodied pick done;
+    counted = is.counted ∙ sym (ap length done ∙ length-with_each (kept_crashed pick) (crashed-durable pick none_kept) bodies.unsettled.items bodies.list.items);
     scripts = is.scripts;
-    sound = sound_chosen at.folder.certain at.folder.pending at.next (picked_names pick at.folder.pending at.folder.certain) (picked_chosen pick at.folder.pending at.folder.certain) is.sound;
+    sound = sound_chosen at.directory.durable at.directory.pending at.next (picked_names pick at.directory.pending at.directory.durable) (picked_chosen pick at.directory.pending at.directory.durable) is.sound;
   }
 
   -- a range was written
-  pub known_written : (number offset : ℕ) (bytes : List ℕ) → number < length bodies.list.items → more.list.items ≡ with_kept (kept_written offset bytes) number bodies.list.items → more.unsettled.items ≡ bodies.unsettled.items ++ number ∷ [] → IsStateKept (with_folder (with_changed number (written_body offset bytes) at.folder) at) names more handed
+  pub known_written : (number offset : ℕ) (bytes : List ℕ) → number < length bodies.list.items → more.list.items ≡ with_kept (kept_written offset bytes) number bodies.list.items → more.unsettled.items ≡ bodies.unsettled.items ++ number ∷ [] → IsStateKept (with_directory (with_changed number (written_body offset bytes) at.directory) at) names more handed
   known_written number offset bytes inside done unsettled = record {
     named = is.named;
-    bodied = bodied_written at.folder.body bodies more is.bodied offset bytes number inside done unsettled;
+    bodied = bodied_written at.directory.body bodies more is.bodied offset bytes number inside done unsettled;
     counted = is.counted ∙ sym (ap length done ∙ length-with_kept (kept_written offset bytes) number bodies.list.items);
     scripts = is.scripts;
     sound = is.sound;
   }
 
   -- a file was synced
-  pub known_synced : (number : ℕ) → more.list.items ≡ with_kept kept_synced number bodies.list.items → more.unsettled.items ≡ bodies.unsettled.items → IsStateKept (with_folder (with_changed number certain_body at.folder) at) names more handed
+  pub known_synced : (number : ℕ) → more.list.items ≡ with_kept kept_synced number bodies.list.items → more.unsettled.items ≡ bodies.unsettled.items → IsStateKept (with_directory (with_changed number durable_body at.directory) at) names more handed
   known_synced number done same = record {
     named = is.named;
-    bodied = bodied_synced at.folder.body bodies more is.bodied number done same;
+    bodied = bodied_synced at.directory.body bodies more is.bodied number done same;
     counted = is.counted ∙ sym (ap length done ∙ length-with_kept kept_synced number bodies.list.items);
     scripts = is.scripts;
     sound = is.sound;
   }
 
-  -- a script was handed over
-  pub known_handed : (number body nice : ℕ) (started : Bool) (scripts : List Handed) → scripts ≡ handed ++ record { number = number; script = (at.folder.body body).bytes; nice = nice; started = started } ∷ [] → IsStateKept (with_handed number body nice started at) names bodies scripts
+  -- a script was started
+  pub known_handed : (number body nice : ℕ) (started : Bool) (scripts : List Handed) → scripts ≡ handed ++ record { number = number; script = (at.directory.body body).bytes; nice = nice; started = started } ∷ [] → IsStateKept (with_handed number body nice started at) names bodies scripts
   known_handed number body nice started scripts more = record {
     named = is.named;
     bodied = is.bodied;
     counted = is.counted;
-    scripts = ap (λ all. all ++ record { number = number; script = (at.folder.body body).bytes; nice = nice; started = started } ∷ []) is.scripts ∙ sym more;
+    scripts = ap (λ all. all ++ record { number = number; script = (at.directory.body body).bytes; nice = nice; started = started } ∷ []) is.scripts ∙ sym more;
     sound = is.sound;
   }
 

@@ -1,21 +1,21 @@
--- In each choice of the pending changes no number stands twice, and all are below the next one.
+-- In each choice of the pending changes no number occurs twice, and all are below the next one.
 use Rattle.std.proofs.Common.{◌≡◌, ◌⊎◌, ◌+◌, ◌<◌, ℕ, Bool, true, false, List, [], ◌∷◌, cond, sym, ap, subst, ◌∙◌, refl, inl, inr, arith}
 use Rattle.std.specs.Prelude.{Option, Some, None, length}
 use Rattle.std.specs.Ordering.{eq_by_cmp}
 use Rattle.std.specs.FinMap as finite
-use Rattle.host_calls.specs.Folder.{Change, Made, Renamed, Removed, Names, AreAfterSome, name_cmp, changed_names}
+use Rattle.host_calls.specs.Directory.{Change, Made, Renamed, Removed, Names, AreAfterSome, name_cmp, changed_names}
 use Rattle.memory_host.specs.Crash.{is_picked, picked_names}
 use Rattle.memory_host.specs.inside.Table.{Holders, changed_at, moved_at, put_at}
 use Rattle.memory_host.specs.inside.Known.{KeepsNumbersApart}
 use Rattle.memory_host.proofs.NamedLemmas.{get-changed}
 use Rattle.memory_host.proofs.TableLemmas.{same_name, same_name-refl}
 
--- No number stands at two names, and all of them are below the next one.
+-- No number is at two names, and all of them are below the next one.
 record AreApart (holders : Holders) (next : ℕ) : Type 0 where
   below : (name : List ℕ) (number : ℕ) → holders name ≡ Some number → number < next
   apart : (first second : List ℕ) (number : ℕ) → holders first ≡ Some number → holders second ≡ Some number → first ≡ second
 
--- what stands at a name after a put: the value itself, or what stood there
+-- what is at a name after a put: the value itself, or what stood there
 put_cases : (name : List ℕ) (value : Option ℕ) (holders : Holders) (other : List ℕ) (number : ℕ) → put_at name value holders other ≡ Some number → ((name ≡ other) × (value ≡ Some number)) ⊎ (holders other ≡ Some number)
 put_cases name value holders other number is = by_case (eq_by_cmp name_cmp name other) refl is where
   by_case : (b : Bool) → eq_by_cmp name_cmp name other ≡ b → cond b value (holders other) ≡ Some number → ((name ≡ other) × (value ≡ Some number)) ⊎ (holders other ≡ Some number)
@@ -105,17 +105,17 @@ apart_same first second next same is = record {
 }
 
 abbrev AreAllApart : Names → List Change → ℕ → Type 0
-AreAllApart certain pending next = (names : Names) → AreAfterSome pending certain names → AreApart (finite.get names) next
+AreAllApart durable pending next = (names : Names) → AreAfterSome pending durable names → AreApart (finite.get names) next
 
-all_apart : (certain : Names) (pending : List Change) (next : ℕ) → KeepsNumbersApart certain pending next → AreAllApart certain pending next
-all_apart certain pending next is = λ names chosen. record { below = is.below names chosen; apart = is.apart names chosen }
+all_apart : (durable : Names) (pending : List Change) (next : ℕ) → KeepsNumbersApart durable pending next → AreAllApart durable pending next
+all_apart durable pending next is = λ names chosen. record { below = is.below names chosen; apart = is.apart names chosen }
 
-sound_from : (certain : Names) (pending : List Change) (next : ℕ) → AreAllApart certain pending next → KeepsNumbersApart certain pending next
-sound_from certain pending next all = record { below = λ names chosen. (all names chosen).below; apart = λ names chosen. (all names chosen).apart }
+sound_from : (durable : Names) (pending : List Change) (next : ℕ) → AreAllApart durable pending next → KeepsNumbersApart durable pending next
+sound_from durable pending next all = record { below = λ names chosen. (all names chosen).below; apart = λ names chosen. (all names chosen).apart }
 
 -- one change more
-pub sound_change : (certain : Names) (pending : List Change) (next : ℕ) (change : Change) → AllowsChange change next → KeepsNumbersApart certain pending next → KeepsNumbersApart certain (change ∷ pending) (next_after change next)
-sound_change certain pending next change new is = sound_from certain (change ∷ pending) (next_after change next) (λ names chosen. by_choice names chosen.0 (all_apart certain pending next is chosen.0 chosen.1) chosen.2) where
+pub sound_change : (durable : Names) (pending : List Change) (next : ℕ) (change : Change) → AllowsChange change next → KeepsNumbersApart durable pending next → KeepsNumbersApart durable (change ∷ pending) (next_after change next)
+sound_change durable pending next change new is = sound_from durable (change ∷ pending) (next_after change next) (λ names chosen. by_choice names chosen.0 (all_apart durable pending next is chosen.0 chosen.1) chosen.2) where
   by_choice : (names before : Names) → AreApart (finite.get before) next → (names ≡ before) ⊎ (names ≡ changed_names change before) → AreApart (finite.get names) (next_after change next)
   by_choice names before apart either = elim either [
     | inl same ↦ subst (λ m. AreApart (finite.get m) (next_after change next)) (sym same) (apart_later (finite.get before) change next apart)
@@ -123,13 +123,13 @@ sound_change certain pending next change new is = sound_from certain (change ∷
   ]
 
 -- one of the choices was taken
-pub sound_chosen : (certain : Names) (pending : List Change) (next : ℕ) (names : Names) → AreAfterSome pending certain names → KeepsNumbersApart certain pending next → KeepsNumbersApart names [] next
-sound_chosen certain pending next names chosen is = sound_from names [] next (λ taken same. subst (λ m. AreApart (finite.get m) next) (sym same) (all_apart certain pending next is names chosen))
+pub sound_chosen : (durable : Names) (pending : List Change) (next : ℕ) (names : Names) → AreAfterSome pending durable names → KeepsNumbersApart durable pending next → KeepsNumbersApart names [] next
+sound_chosen durable pending next names chosen is = sound_from names [] next (λ taken same. subst (λ m. AreApart (finite.get m) next) (sym same) (all_apart durable pending next is names chosen))
 
 -- the changes that are picked are a choice
-pub picked_chosen : (pick : ℕ) (pending : List Change) (certain : Names) → AreAfterSome pending certain (picked_names pick pending certain)
-picked_chosen pick [] certain = refl
-picked_chosen pick (change ∷ older) certain = (picked_names pick older certain, picked_chosen pick older certain, by_pick (is_picked pick (length older))) where
-  by_pick : (b : Bool) → (cond b (changed_names change (picked_names pick older certain)) (picked_names pick older certain) ≡ picked_names pick older certain) ⊎ (cond b (changed_names change (picked_names pick older certain)) (picked_names pick older certain) ≡ changed_names change (picked_names pick older certain))
+pub picked_chosen : (pick : ℕ) (pending : List Change) (durable : Names) → AreAfterSome pending durable (picked_names pick pending durable)
+picked_chosen pick [] durable = refl
+picked_chosen pick (change ∷ older) durable = (picked_names pick older durable, picked_chosen pick older durable, by_pick (is_picked pick (length older))) where
+  by_pick : (b : Bool) → (cond b (changed_names change (picked_names pick older durable)) (picked_names pick older durable) ≡ picked_names pick older durable) ⊎ (cond b (changed_names change (picked_names pick older durable)) (picked_names pick older durable) ≡ changed_names change (picked_names pick older durable))
   by_pick true = inr refl
   by_pick false = inl refl

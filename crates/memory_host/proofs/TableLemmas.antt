@@ -5,13 +5,13 @@ use Rattle.std.specs.Ordering.{eq_by_cmp}
 use Rattle.std.specs.BTreeMap.{get}
 use Rattle.std.proofs.lemmas.Map.Text.{is_eq-slice_cmp}
 use Rattle.std.proofs.lemmas.Slice.Eq.{bytes_eq-Decides}
-use Rattle.host_calls.specs.Folder.{Change, Made, Renamed, Removed, name_cmp}
+use Rattle.host_calls.specs.Directory.{Change, Made, Renamed, Removed, name_cmp}
 use Rattle.memory_host.specs.Crash.{is_picked}
 use Rattle.memory_host.specs.declared.held.Held.{Held}
 use Rattle.std.proofs.lemmas.List.Folds.{list_any_more, list_any_at}
 use Rattle.std.proofs.lemmas.List.{reverse-append, take_more, length-map, length-reverse, length-take-le}
 use Rattle.memory_host.specs.declared.pending.Change.{Change as KeptChange}
-use Rattle.memory_host.specs.inside.Table.{HasPlaces, HaveAllPlaces, are_touching, changed_at, moved_at, meant, pending_of, picked_holders, touches, where_touched, Holders, HeldNames, IsEntrySet, now_part, certain_part, now_in, certain_in, has_place, put_at, HoldsSameNow, HoldsSameCertain, KeepsPlaces}
+use Rattle.memory_host.specs.inside.Table.{HasPlaces, HaveAllPlaces, are_touching, changed_at, moved_at, meant, pending_of, picked_holders, touches, where_touched, Holders, HeldNames, IsEntrySet, now_part, durable_part, now_in, durable_in, has_place, put_at, HoldsSameNow, HoldsSameDurable, KeepsPlaces}
 
 -- the order tells equal names
 pub same_name : (name other : List ℕ) → eq_by_cmp name_cmp name other ≡ true → name ≡ other
@@ -36,14 +36,14 @@ module _ (name : List ℕ) (kept : Option Held) (old new : HeldNames) (is : IsEn
   pub put-now : (other : List ℕ) → now_in new other ≡ put_at name (now_part kept) (now_in old) other
   put-now other = ap now_part (is other) ∙ ap-cond now_part (eq_by_cmp name_cmp name other) kept (get name_cmp old other)
 
-  pub put-certain : (other : List ℕ) → certain_in new other ≡ put_at name (certain_part kept) (certain_in old) other
-  put-certain other = ap certain_part (is other) ∙ ap-cond certain_part (eq_by_cmp name_cmp name other) kept (get name_cmp old other)
+  pub put-durable : (other : List ℕ) → durable_in new other ≡ put_at name (durable_part kept) (durable_in old) other
+  put-durable other = ap durable_part (is other) ∙ ap-cond durable_part (eq_by_cmp name_cmp name other) kept (get name_cmp old other)
 
   pub put-same_now : now_part kept ≡ now_in old name → HoldsSameNow old new
   put-same_now same other = put-now other ∙ put_at-same name (now_part kept) (now_in old) same other
 
-  pub put-same_certain : certain_part kept ≡ certain_in old name → HoldsSameCertain old new
-  put-same_certain same other = put-certain other ∙ put_at-same name (certain_part kept) (certain_in old) same other
+  pub put-same_durable : durable_part kept ≡ durable_in old name → HoldsSameDurable old new
+  put-same_durable same other = put-durable other ∙ put_at-same name (durable_part kept) (durable_in old) same other
 
   -- a name that is kept stays so
   pub put-places : is_some kept ≡ has_place old name → KeepsPlaces old new
@@ -52,7 +52,7 @@ module _ (name : List ℕ) (kept : Option Held) (old new : HeldNames) (is : IsEn
     by_case true e = same ∙ ap (has_place old) (same_name name other e)
     by_case false e = refl
 
--- what is put at a name stands there alone
+-- what is put at a name is there alone
 pub put_at-own : (name : List ℕ) (value : Option ℕ) (there elsewhere : Holders) → value ≡ there name → (other : List ℕ) → put_at name value elsewhere other ≡ cond (eq_by_cmp name_cmp name other) (there other) (elsewhere other)
 put_at-own name value there elsewhere is other = by_case (eq_by_cmp name_cmp name other) refl where
   by_case : (same : Bool) → eq_by_cmp name_cmp name other ≡ same → cond same value (elsewhere other) ≡ cond same (there other) (elsewhere other)
@@ -64,15 +64,15 @@ pub own-same : (name : List ℕ) (there elsewhere : Holders) → there name ≡ 
 own-same name there elsewhere is other = sym (put_at-same name (there name) elsewhere is other) ∙ put_at-own name (there name) there elsewhere refl other
 
 -- a name that is not kept holds nothing
-none_agree : (kept : Option Held) → kept ≡ None → now_part kept ≡ certain_part kept
-none_agree kept none = ap now_part none ∙ sym (ap certain_part none)
+none_agree : (kept : Option Held) → kept ≡ None → now_part kept ≡ durable_part kept
+none_agree kept none = ap now_part none ∙ sym (ap durable_part none)
 
 module _ (held : HeldNames) (name : List ℕ) (none : get name_cmp held name ≡ None) where
-  pub none-now : (other : List ℕ) → now_in held other ≡ cond (eq_by_cmp name_cmp name other) (certain_in held other) (now_in held other)
-  none-now = own-same name (certain_in held) (now_in held) (sym (none_agree (get name_cmp held name) none))
+  pub none-now : (other : List ℕ) → now_in held other ≡ cond (eq_by_cmp name_cmp name other) (durable_in held other) (now_in held other)
+  none-now = own-same name (durable_in held) (now_in held) (sym (none_agree (get name_cmp held name) none))
 
-  pub none-certain : (other : List ℕ) → certain_in held other ≡ cond (eq_by_cmp name_cmp name other) (now_in held other) (certain_in held other)
-  none-certain = own-same name (now_in held) (certain_in held) (none_agree (get name_cmp held name) none)
+  pub none-durable : (other : List ℕ) → durable_in held other ≡ cond (eq_by_cmp name_cmp name other) (now_in held other) (durable_in held other)
+  none-durable = own-same name (now_in held) (durable_in held) (none_agree (get name_cmp held name) none)
 
 -- what is not there is None
 pub not_some : {X : Type 0} (o : Option X) → is_some o ≡ false → o ≡ None

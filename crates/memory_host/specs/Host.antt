@@ -4,7 +4,7 @@ use Rattle.std.specs.FinMap as map
 use Rattle.host_calls.specs.declared.child.Asked.{Asked}
 use Rattle.host_calls.specs.Session.{Session}
 use Rattle.host_calls.specs.World.{World, reading}
-use Rattle.host_calls.specs.Folder.{Files, IsImage}
+use Rattle.host_calls.specs.Directory.{Files, IsImage}
 use Rattle.memory_host.specs.Crash.{rebooted}
 use Rattle.memory_host.specs.Past.{CallLog, history_of, moment_of}
 use Rattle.memory_host.specs.Plan.{Progress, first_progress, progress_after_reboot}
@@ -60,10 +60,10 @@ abbrev pub first_session : Plan → Session
 first_session plan =
     record { inside = false; children = []; made_as = spelled plan []; file_faults = 0; start_faults = 0; taken = 0 }
 
--- a host with these files, all of them certain, before its first call
+-- a host with these files, all of them durable, before its first call
 pub record IsNew (files : Files) (plan : Plan) (host : MemoryHost) : Type 0 where
   pub reading : reading (memory_world host) ≡ files
-  pub settled : (image : Files) → IsImage (memory_world host).now.folder image → image ≡ files
+  pub settled : (image : Files) → IsImage (memory_world host).now.directory image → image ≡ files
   pub handed : (memory_world host).now.handed ≡ []
   pub before : (memory_world host).before ≡ []
   pub asked : (memory_world host).asked ≡ []
@@ -74,7 +74,7 @@ pub record IsNew (files : Files) (plan : Plan) (host : MemoryHost) : Type 0 wher
 abbrev pub after_reboot : ℕ → World → World
 after_reboot pick world =
     record {
-      now = record { folder = rebooted pick world.now.folder; handed = world.now.handed };
+      now = record { directory = rebooted pick world.now.directory; handed = world.now.handed };
       before = world.now ∷ world.before;
       asked = world.asked;
     }
@@ -82,8 +82,8 @@ after_reboot pick world =
 -- the host comes up again, outside a session and with no child
 pub record IsRebooted (pick : ℕ) (fuse : Option ℕ) (old new : MemoryHost) : Type 0 where
   pub world : memory_world new ≡ after_reboot pick (memory_world old)
-  pub image : IsImage (memory_world old).now.folder (reading (memory_world new))
-  pub only : (image : Files) → IsImage (memory_world new).now.folder image → image ≡ reading (memory_world new)
+  pub image : IsImage (memory_world old).now.directory (reading (memory_world new))
+  pub only : (image : Files) → IsImage (memory_world new).now.directory image → image ≡ reading (memory_world new)
   pub outside : (memory_session new).inside ≡ false
   pub children : (memory_session new).children ≡ []
   pub made_as : (memory_session new).made_as ≡ spelled (progress_of old).plan (fuses_of old ++ option_to_list fuse)

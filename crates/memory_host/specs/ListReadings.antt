@@ -3,7 +3,7 @@ use Rattle.host_calls.specs.Clock.{Answers, Readers}
 use Rattle.memory_host.specs.Readings.{answers_to, readings_spelling}
 use Rattle.memory_host.specs.declared.readings.ListReadings.{ListReadings}
 
--- the answers so far, and the rest that was asked for
+-- the answers so far, and the rest that was requested
 abbrev pub answers_so_far : ListReadings → Answers
 answers_so_far readings =
     record {

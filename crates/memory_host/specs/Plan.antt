@@ -69,7 +69,7 @@ next_start_fails at = is_some (next_part at) || is_planned at.starts at.plan.fai
 abbrev pub next_start : Progress → Result Child StartFault
 next_start at = if next_start_fails at then Err start.Failed else Ok (record { id = at.starts })
 
--- one call more was counted, up to the last value of u64
+-- one more call was counted, up to the last value of u64
 abbrev pub progress_after_call : Progress → Progress
 progress_after_call at =
     record at { calls = min (at.calls + 1) last_count; since_reboot = min (at.since_reboot + 1) last_count }

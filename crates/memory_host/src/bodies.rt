@@ -5,7 +5,7 @@ ghost use Rattle.memory_host.specs.inside.Bodies.{kept_at, kept_made, kept_writt
 use crate::body::Body;
 use std::alloc::{AllocError, Global};
 
-/// The bodies by their numbers, and the numbers of those that may have uncertain places.
+/// The bodies by their numbers, and the numbers of those that may have unsynced places.
 #[derive(Drop)]
 pub struct Bodies {
     list: Vec<Body>,
@@ -71,7 +71,7 @@ impl Bodies {
         Ok(())
     }
 
-    /// Makes one body certain.
+    /// Syncs one body.
     pub fn sync(&mut self, number: usize)
         requires { number < length self.old.list.items }
         ensures list { self.new.list.items ≡ with_kept kept_synced number self.old.list.items }
@@ -80,7 +80,7 @@ impl Bodies {
         self.list[number].sync();
     }
 
-    // A number may stand in the list twice: to make a body certain twice is to do it once.
+    // A number may be in the list twice: to make a body certain twice is to do it once.
     /// Makes all bodies certain.
     pub fn settle(&mut self)
         ensures list { self.new.list.items ≡ with_each kept_synced self.old.unsettled.items self.old.list.items }
@@ -101,7 +101,7 @@ impl Bodies {
     }
 }
 
-// Makes the bodies of these numbers certain.
+// Syncs the bodies of these numbers.
 fn sync_bodies(list: &mut [Body], numbers: &[usize])
     ensures { list.new ≡ with_each kept_synced numbers.now list.old }
 {

@@ -1,6 +1,6 @@
 //! The body of a file.
 ghost use Rattle.std.specs.Prelude.{◌≡◌, ◌+◌, ◌≤◌, ◌%◌, ◌||◌, not, take, length, IfOk, OnErr, if◌then◌else◌};
-ghost use Rattle.host_calls.specs.Folder.{is_within};
+ghost use Rattle.host_calls.specs.Directory.{is_within};
 ghost use Rattle.memory_host.specs.inside.Bodies.{kept_made, kept_written, kept_synced, kept_crashed, lies_in};
 ghost use Rattle.memory_host.specs.Crash.{picked_byte, picked_bytes};
 
@@ -15,7 +15,7 @@ pub struct Range {
 }
 
 /// The bytes of a file, whether it was synced since it was made, and the ranges that were written since.
-/// All places of a file that was never synced are uncertain.
+/// All places of a file that was never synced are not synced.
 #[derive(Drop)]
 pub struct Body {
     bytes: Vec<u8>,
@@ -63,7 +63,7 @@ impl Body {
         Ok(())
     }
 
-    /// Makes all of it certain.
+    /// Makes all of it durable.
     pub fn sync(&mut self)
         ensures { self.new ≡ kept_synced self.old }
     {
@@ -123,7 +123,7 @@ fn byte_left(is_synced: bool, ranges: &[Range], pick: u64, place: usize, byte: u
     }
 }
 
-// Changes the bytes at the uncertain places.
+// Changes the bytes at the unsynced places.
 fn change_bytes(bytes: &mut [u8], is_synced: bool, ranges: &[Range], pick: u64)
     ensures { bytes.new ≡ picked_bytes pick (λ place. not is_synced || lies_in ranges.now place) 0 bytes.old }
 {

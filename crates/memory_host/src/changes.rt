@@ -1,7 +1,7 @@
-//! Changes of names: made, settled and taken back.
+//! Changes of names: made, settled and removed.
 ghost use Rattle.std.specs.Prelude.{◌≡◌, ℕ, List, IsTrue, if◌then◌else◌};
 ghost use Rattle.memory_host.specs.Crash.{is_picked};
-ghost use Rattle.memory_host.specs.inside.Table.{HasPlaces, HaveAllPlaces, HoldsSameCertain, HoldsSameNow, KeepsPlaces, certain_in, changed_at, has_place, meant, moved_at, now_in, pending_of, picked_holders, touches, where_touched};
+ghost use Rattle.memory_host.specs.inside.Table.{HasPlaces, HaveAllPlaces, HoldsSameDurable, HoldsSameNow, KeepsPlaces, durable_in, changed_at, has_place, meant, moved_at, now_in, pending_of, picked_holders, touches, where_touched};
 
 use crate::held::{Held, now_of, set_now, settle_name, take_name_back};
 use crate::pending::Change;
@@ -12,7 +12,7 @@ use std::collections::BTreeMap;
 pub fn make_change(held: &mut BTreeMap<Name, Held>, change: &Change)
     requires places { HasPlaces held.old change.now }
     ensures now { (name : List ℕ) → now_in held.new name ≡ changed_at (meant change.now) (now_in held.old) name }
-    ensures certain { HoldsSameCertain held.old held.new }
+    ensures durable { HoldsSameDurable held.old held.new }
     ensures places { KeepsPlaces held.old held.new }
 {
     match change {
@@ -28,7 +28,7 @@ fn move_body(held: &mut BTreeMap<Name, Held>, from: &Name, to: &Name)
     requires to { IsTrue (has_place held.old to.now) }
     ensures now { (name : List ℕ) → now_in held.new name
         ≡ moved_at (now_in held.old from.now) from.now to.now (now_in held.old) name }
-    ensures certain { HoldsSameCertain held.old held.new }
+    ensures durable { HoldsSameDurable held.old held.new }
     ensures places { KeepsPlaces held.old held.new }
 {
     if let Some(number) = now_of(held, from) {
@@ -42,7 +42,7 @@ pub fn make_picked(held: &mut BTreeMap<Name, Held>, changes: &[Change], pick: u6
     requires places { HaveAllPlaces held.old changes.now }
     ensures now { (name : List ℕ) → now_in held.new name
         ≡ picked_holders pick (pending_of changes.now) (now_in held.old) name }
-    ensures certain { HoldsSameCertain held.old held.new }
+    ensures durable { HoldsSameDurable held.old held.new }
 {
     for number in 0..changes.len() {
         make_if_picked(held, &changes[number], pick, number);
@@ -55,7 +55,7 @@ fn make_if_picked(held: &mut BTreeMap<Name, Held>, change: &Change, pick: u64, n
     ensures now { (name : List ℕ) → now_in held.new name
         ≡ (if is_picked pick number then changed_at (meant change.now) (now_in held.old) name
         else now_in held.old name) }
-    ensures certain { HoldsSameCertain held.old held.new }
+    ensures durable { HoldsSameDurable held.old held.new }
     ensures places { KeepsPlaces held.old held.new }
 {
     if names_change(pick, number) {
@@ -73,19 +73,19 @@ fn names_change(pick: u64, number: usize) -> bool
 /// Makes the names of these changes certain.
 pub fn settle_each(held: &mut BTreeMap<Name, Held>, changes: &[Change])
     ensures now { HoldsSameNow held.old held.new }
-    ensures certain { (name : List ℕ) → certain_in held.new name
-        ≡ where_touched changes.now (now_in held.old) (certain_in held.old) name }
+    ensures durable { (name : List ℕ) → durable_in held.new name
+        ≡ where_touched changes.now (now_in held.old) (durable_in held.old) name }
 {
     for change in changes {
         settle_change(held, change);
     }
 }
 
-// Makes the names of this change certain.
+// Syncs the names of this change.
 fn settle_change(held: &mut BTreeMap<Name, Held>, change: &Change)
     ensures now { HoldsSameNow held.old held.new }
-    ensures certain { (name : List ℕ) → certain_in held.new name
-        ≡ (if touches change.now name then now_in held.old name else certain_in held.old name) }
+    ensures durable { (name : List ℕ) → durable_in held.new name
+        ≡ (if touches change.now name then now_in held.old name else durable_in held.old name) }
 {
     match change {
         Change::Made(name, _) => settle_name(held, name),
@@ -100,8 +100,8 @@ fn settle_change(held: &mut BTreeMap<Name, Held>, change: &Change)
 /// Takes these changes back.
 pub fn take_each_back(held: &mut BTreeMap<Name, Held>, changes: &[Change])
     ensures now { (name : List ℕ) → now_in held.new name
-        ≡ where_touched changes.now (certain_in held.old) (now_in held.old) name }
-    ensures certain { HoldsSameCertain held.old held.new }
+        ≡ where_touched changes.now (durable_in held.old) (now_in held.old) name }
+    ensures durable { HoldsSameDurable held.old held.new }
     ensures places { KeepsPlaces held.old held.new }
 {
     for change in changes {
@@ -112,8 +112,8 @@ pub fn take_each_back(held: &mut BTreeMap<Name, Held>, changes: &[Change])
 // Takes this change back.
 fn undo_change(held: &mut BTreeMap<Name, Held>, change: &Change)
     ensures now { (name : List ℕ) → now_in held.new name
-        ≡ (if touches change.now name then certain_in held.old name else now_in held.old name) }
-    ensures certain { HoldsSameCertain held.old held.new }
+        ≡ (if touches change.now name then durable_in held.old name else now_in held.old name) }
+    ensures durable { HoldsSameDurable held.old held.new }
     ensures places { KeepsPlaces held.old held.new }
 {
     match change {

@@ -17,7 +17,7 @@ impl Model for Files {
     ghost use Rattle.std.specs.Coded.{coded_list, coded_ℕ};
     ghost use Rattle.std.specs.FinMap as map;
     ghost use Rattle.std.specs.FinMap.{from_entries};
-    ghost use Rattle.host_calls.specs.Folder.{Files as FileMap};
+    ghost use Rattle.host_calls.specs.Directory.{Files as FileMap};
 
     ghost Value = { FileMap };
 

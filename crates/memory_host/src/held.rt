@@ -2,8 +2,8 @@
 ghost use Rattle.std.specs.Prelude.{◌≡◌, ℕ, List, IsSome, IsTrue, if◌then◌else◌};
 ghost use Rattle.std.specs.Ordering.{eq_by_cmp};
 ghost use Rattle.std.specs.BTreeMap.{get};
-ghost use Rattle.host_calls.specs.Folder.{name_cmp};
-ghost use Rattle.memory_host.specs.inside.Table.{HoldsSameCertain, HoldsSameNow, IsEntrySet, KeepsPlaces, certain_in, has_place, now_in, put_at};
+ghost use Rattle.host_calls.specs.Directory.{name_cmp};
+ghost use Rattle.memory_host.specs.inside.Table.{HoldsSameDurable, HoldsSameNow, IsEntrySet, KeepsPlaces, durable_in, has_place, now_in, put_at};
 
 use host_calls::Name;
 use std::collections::BTreeMap;
@@ -11,7 +11,7 @@ use std::collections::BTreeMap;
 /// The body that a name certainly holds, and the one that it holds now.
 #[derive(Clone, Copy)]
 pub struct Held {
-    pub certain: Option<usize>,
+    pub durable: Option<usize>,
     pub now: Option<usize>,
 }
 
@@ -53,7 +53,7 @@ fn remove_entry(held: &mut BTreeMap<Name, Held>, name: &Name)
 pub fn set_now(held: &mut BTreeMap<Name, Held>, name: &Name, now: Option<usize>)
     requires place { IsTrue (has_place held.old name.now) }
     ensures now { (other : List ℕ) → now_in held.new other ≡ put_at name.now now (now_in held.old) other }
-    ensures certain { HoldsSameCertain held.old held.new }
+    ensures durable { HoldsSameDurable held.old held.new }
     ensures places { KeepsPlaces held.old held.new }
 {
     if let Some(kept) = held_entry(held, name) {
@@ -61,7 +61,7 @@ pub fn set_now(held: &mut BTreeMap<Name, Held>, name: &Name, now: Option<usize>)
             held,
             name,
             Held {
-                certain: kept.certain,
+                durable: kept.durable,
                 now,
             },
         );
@@ -71,8 +71,8 @@ pub fn set_now(held: &mut BTreeMap<Name, Held>, name: &Name, now: Option<usize>)
 /// Makes certain what the name holds now. A name that holds nothing is no longer kept.
 pub fn settle_name(held: &mut BTreeMap<Name, Held>, name: &Name)
     ensures now { HoldsSameNow held.old held.new }
-    ensures certain { (other : List ℕ) → certain_in held.new other
-        ≡ (if eq_by_cmp name_cmp name.now other then now_in held.old other else certain_in held.old other) }
+    ensures durable { (other : List ℕ) → durable_in held.new other
+        ≡ (if eq_by_cmp name_cmp name.now other then now_in held.old other else durable_in held.old other) }
 {
     if let Some(kept) = held_entry(held, name) {
         settle_kept(held, name, kept.now);
@@ -84,30 +84,30 @@ fn settle_kept(held: &mut BTreeMap<Name, Held>, name: &Name, now: Option<usize>)
     requires kept { IsSome (get name_cmp held.old name.now) }
     requires now { now ≡ now_in held.old name.now }
     ensures now { HoldsSameNow held.old held.new }
-    ensures certain { (other : List ℕ) → certain_in held.new other
-        ≡ (if eq_by_cmp name_cmp name.now other then now_in held.old other else certain_in held.old other) }
+    ensures durable { (other : List ℕ) → durable_in held.new other
+        ≡ (if eq_by_cmp name_cmp name.now other then now_in held.old other else durable_in held.old other) }
 {
     match now {
         None => remove_entry(held, name),
-        Some(_) => set_entry(held, name, Held { certain: now, now }),
+        Some(_) => set_entry(held, name, Held { durable: now, now }),
     }
 }
 
 /// Gives the name the body that it certainly holds.
 pub fn take_name_back(held: &mut BTreeMap<Name, Held>, name: &Name)
     ensures now { (other : List ℕ) → now_in held.new other
-        ≡ (if eq_by_cmp name_cmp name.now other then certain_in held.old other else now_in held.old other) }
-    ensures certain { HoldsSameCertain held.old held.new }
+        ≡ (if eq_by_cmp name_cmp name.now other then durable_in held.old other else now_in held.old other) }
+    ensures durable { HoldsSameDurable held.old held.new }
     ensures places { KeepsPlaces held.old held.new }
 {
     if let Some(kept) = held_entry(held, name) {
-        let certain = kept.certain;
+        let durable = kept.durable;
         set_entry(
             held,
             name,
             Held {
-                certain,
-                now: certain,
+                durable,
+                now: durable,
             },
         );
     }

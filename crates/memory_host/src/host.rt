@@ -2,7 +2,7 @@
 ghost use Rattle.std.specs.Prelude.{◌≡◌, ◌≢◌, true, Err, None, Ok, Some, ◌<◌, ◌≤◌, ◌-◌, ◌==◌, Contains, IfOk, IsErrOf, IsSome, alloc_error, length, slice_index_or, slice_set, vec_len, take, drop, if◌then◌else◌};
 ghost use Rattle.std.specs.FinMap as map;
 ghost use Rattle.host_calls.specs.Causes.{Rose};
-ghost use Rattle.host_calls.specs.Folder.{HasNamesSynced, IsInNoImage, IsMade, IsMadeInPart, IsRemoved, IsRenamed, IsSettled, IsSynced, IsSyncedInPart, IsWritten, IsWrittenInPart};
+ghost use Rattle.host_calls.specs.Directory.{HasNamesSynced, IsInNoImage, IsMade, IsMadeInPart, IsRemoved, IsRenamed, IsSettled, IsSynced, IsSyncedInPart, IsWritten, IsWrittenInPart};
 ghost use Rattle.host_calls.specs.Session.{Enters, IsInside, IsLeft, IsOutside, StaysInside};
 ghost use Rattle.host_calls.specs.World.{Asks, IsWithinFile, bytes_from, reading, size_of};
 ghost use Rattle.memory_host.specs.Host.{memory_session, memory_world, progress_of};
@@ -105,7 +105,7 @@ impl Host for MemoryHost {
 
     fn create(&mut self, alloc: Global, name: &Name, bytes: &[u8]) -> Result<(), HostFault>
         requires inside { IsInside (memory_session self.old) }
-        requires new_name { IsInNoImage (memory_world self.old).now.folder name.now }
+        requires new_name { IsInNoImage (memory_world self.old).now.directory name.now }
         ensures { ChangesAsPlanned (IsMade name.now bytes.now) (IsMadeInPart name.now bytes.now)
             self.old self.new result }
     {

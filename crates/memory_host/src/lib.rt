@@ -2,7 +2,7 @@
 //! Every clause of the traits holds, with content; a call fails exactly where its plan says.
 //!
 //! It keeps the files that it was made with and each call that changed them. What it runs on is kept
-//! beside, so that the time of a call grows with its own work and not with the calls before it.
+//! next to, so that the time of a call grows with its own work and not with the calls before it.
 #![tactic(auto)]
 
 mod bodies;

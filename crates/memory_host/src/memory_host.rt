@@ -1,4 +1,4 @@
-//! A spool folder in memory.
+//! A spool directory in memory.
 ghost use Rattle.std.specs.Prelude.{◌≡◌, ◌<◌, ◌++◌, length, option_to_list, vec_len, vec_capacity};
 ghost use Rattle.memory_host.specs.inside.Faults.{AreFaultsPlanned};
 ghost use Rattle.memory_host.specs.inside.Kin.{AreChildrenAsPlanned};
@@ -9,7 +9,7 @@ use crate::{Files, Plan};
 use host_calls::{Asked, Child, Handed, Name};
 use std::alloc::{AllocError, Global};
 
-/// A spool folder in memory, its lock and its children. It fails and crashes as its plan says.
+/// A spool directory in memory, its lock and its children. It fails and crashes as its plan says.
 #[derive(Drop)]
 pub struct MemoryHost {
     pub(crate) past: Past,
@@ -45,7 +45,7 @@ impl MemoryHost {
     ghost use Rattle.host_calls.specs.World.{reading};
     ghost use Rattle.memory_host.specs.Host.{IsNew, IsRebooted, IsUnchanged, calls_of, memory_world, reading_at};
 
-    /// A host with these files, all of them certain, before its first call.
+    /// A host with these files, all of them durable, before its first call.
     pub fn make(alloc: Global, files: Files, plan: Plan) -> Result<MemoryHost, AllocError>
         ensures { IfOk result (IsNew files plan) }
     {
@@ -99,7 +99,7 @@ impl MemoryHost {
         self.past.names(alloc)
     }
 
-    /// All scripts that were handed over.
+    /// All scripts that were started.
     pub fn handed(&self) -> &[Handed]
         ensures { result.now ≡ (memory_world self.now).now.handed }
     {

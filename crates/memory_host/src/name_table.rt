@@ -1,8 +1,8 @@
 //! Which name holds which body.
 ghost use Rattle.std.specs.Prelude.{◌≡◌, ◌<◌, All, ◌++◌, [], ◌∷◌, ℕ, List, IfOk, OnOk, IsTrue, vec_len, vec_capacity};
 ghost use Rattle.std.specs.BTreeMap.{IsEmpty, IsOrdered, get};
-ghost use Rattle.host_calls.specs.Folder.{name_cmp};
-ghost use Rattle.memory_host.specs.inside.Table.{HasPlaces, HaveAllPlaces, HoldsSameCertain, HoldsSameNow, KeepsPlaces, certain_in, changed_at, has_place, meant, now_in, now_names, pending_of, picked_holders, where_touched};
+ghost use Rattle.host_calls.specs.Directory.{name_cmp};
+ghost use Rattle.memory_host.specs.inside.Table.{HasPlaces, HaveAllPlaces, HoldsSameDurable, HoldsSameNow, KeepsPlaces, durable_in, changed_at, has_place, meant, now_in, now_names, pending_of, picked_holders, where_touched};
 
 use crate::changes::{make_change, make_picked, settle_each, take_each_back};
 use crate::held::{Held, now_of};
@@ -11,7 +11,7 @@ use host_calls::Name;
 use std::alloc::{AllocError, Global};
 use std::collections::BTreeMap;
 
-/// The names, certain and now, and the changes that are pending, the oldest first.
+/// The names, durable and current, and the changes that are pending, the oldest first.
 #[derive(Drop)]
 pub struct NameTable {
     held: BTreeMap<Name, Held>,
@@ -57,13 +57,13 @@ impl NameTable {
         ensures places { (name : List ℕ)
             → IsTrue (has_place self.old.held name) → IsTrue (has_place self.new.held name) }
         ensures now { HoldsSameNow self.old.held self.new.held }
-        ensures certain { HoldsSameCertain self.old.held self.new.held }
+        ensures durable { HoldsSameDurable self.old.held self.new.held }
         ensures pending { self.new.pending.items ≡ self.old.pending.items }
     {
         self.pending.reserve(1)?;
         if !self.held.contains_key(target) {
             let none = Held {
-                certain: None,
+                durable: None,
                 now: None,
             };
             self.held.insert(*target, none)?;
@@ -77,7 +77,7 @@ impl NameTable {
         requires places { HasPlaces self.old.held change }
         ensures now { (name : List ℕ)
             → now_in self.new.held name ≡ changed_at (meant change) (now_in self.old.held) name }
-        ensures certain { HoldsSameCertain self.old.held self.new.held }
+        ensures durable { HoldsSameDurable self.old.held self.new.held }
         ensures places { KeepsPlaces self.old.held self.new.held }
         ensures pending { self.new.pending.items ≡ self.old.pending.items ++ change ∷ [] }
     {
@@ -85,25 +85,25 @@ impl NameTable {
         self.pending.push_reserved(change);
     }
 
-    /// Makes all names certain.
+    /// Syncs all names.
     pub fn sync(&mut self)
         ensures now { HoldsSameNow self.old.held self.new.held }
-        ensures certain { (name : List ℕ) → certain_in self.new.held name
-            ≡ where_touched self.old.pending.items (now_in self.old.held) (certain_in self.old.held) name }
+        ensures durable { (name : List ℕ) → durable_in self.new.held name
+            ≡ where_touched self.old.pending.items (now_in self.old.held) (durable_in self.old.held) name }
         ensures pending { self.new.pending.items ≡ [] }
     {
         settle_each(&mut self.held, &self.pending);
         self.pending.clear();
     }
 
-    /// Takes the pending changes back, makes those that the pick names, and makes all names certain.
+    /// Takes the pending changes back, makes those that the pick names, and syncs all names.
     pub fn crash(&mut self, pick: u64)
         requires places { HaveAllPlaces self.old.held self.old.pending.items }
         ensures now { (name : List ℕ) → now_in self.new.held name
             ≡ picked_holders pick (pending_of self.old.pending.items)
-            (where_touched self.old.pending.items (certain_in self.old.held) (now_in self.old.held)) name }
-        ensures certain { (name : List ℕ) → certain_in self.new.held name
-            ≡ where_touched self.old.pending.items (now_in self.new.held) (certain_in self.old.held) name }
+            (where_touched self.old.pending.items (durable_in self.old.held) (now_in self.old.held)) name }
+        ensures durable { (name : List ℕ) → durable_in self.new.held name
+            ≡ where_touched self.old.pending.items (now_in self.new.held) (durable_in self.old.held) name }
         ensures pending { self.new.pending.items ≡ [] }
     {
         take_each_back(&mut self.held, &self.pending);

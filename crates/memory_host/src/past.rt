@@ -1,8 +1,8 @@
-//! All that happened to a folder.
+//! All that happened to a directory.
 ghost use Rattle.std.specs.Prelude.{◌≡◌, IfOk, IsSome, is_ok, length, if◌then◌else◌};
 ghost use Rattle.std.specs.Option.{option_copied};
 ghost use Rattle.std.specs.FinMap as map;
-ghost use Rattle.host_calls.specs.Folder.{IsFresh, IsHeldAt, names_of, reading_of};
+ghost use Rattle.host_calls.specs.Directory.{IsFresh, IsHeldAt, names_of, reading_of};
 ghost use Rattle.host_calls.specs.World.{IsWithinFile};
 ghost use Rattle.memory_host.specs.inside.Story.{Follows, Opens, state_of, with_next};
 ghost use Rattle.memory_host.specs.inside.Known.{MakesFile};
@@ -41,7 +41,7 @@ impl Model for Past {
 }
 
 impl Past {
-    /// A folder with these files, all of it certain.
+    /// A directory with these files, all of it durable.
     pub fn open(alloc: Global, files: Files) -> Result<Past, AllocError>
         ensures { IfOk result (Opens files) }
     {
@@ -62,7 +62,7 @@ impl Past {
         })
     }
 
-    /// All scripts that were handed over.
+    /// All scripts that were started.
     pub fn handed(&self) -> &[Handed]
         ensures { result.now ≡ (state_of self.now).handed }
     {
@@ -71,7 +71,7 @@ impl Past {
 
     /// The bytes of a name, if there is a file.
     pub fn reading(&self, name: &Name) -> Option<&[u8]>
-        ensures { option_copied result ≡ map.get (reading_of (state_of self.now).folder) name.now }
+        ensures { option_copied result ≡ map.get (reading_of (state_of self.now).directory) name.now }
     {
         match self.names.number(name) {
             Some(number) => Some(self.bodies.bytes(number)),
@@ -79,10 +79,10 @@ impl Past {
         }
     }
 
-    /// The bytes of a file that is there.
+    /// The bytes of a file that exists.
     pub fn bytes(&self, name: &Name) -> &[u8]
-        requires { IsSome (map.get (reading_of (state_of self.now).folder) name.now) }
-        ensures { map.get (reading_of (state_of self.now).folder) name.now ≡ Some result.now }
+        requires { IsSome (map.get (reading_of (state_of self.now).directory) name.now) }
+        ensures { map.get (reading_of (state_of self.now).directory) name.now ≡ Some result.now }
     {
         match self.reading(name) {
             Some(bytes) => bytes,
@@ -90,10 +90,10 @@ impl Past {
         }
     }
 
-    // The number of a file that is there.
+    // The number of a file that exists.
     fn number(&self, name: &Name) -> usize
-        requires { IsSome (map.get (reading_of (state_of self.now).folder) name.now) }
-        ensures held { IsHeldAt (names_of (state_of self.now).folder) name.now result }
+        requires { IsSome (map.get (reading_of (state_of self.now).directory) name.now) }
+        ensures held { IsHeldAt (names_of (state_of self.now).directory) name.now result }
     {
         match self.names.number(name) {
             Some(number) => number,
@@ -103,14 +103,14 @@ impl Past {
 
     /// The names of the files, in byte order.
     pub fn names(&self, alloc: Global) -> Result<Vec<Name>, AllocError>
-        ensures { IfOk result (λ names. names.items ≡ map.keys (reading_of (state_of self.now).folder)) }
+        ensures { IfOk result (λ names. names.items ≡ map.keys (reading_of (state_of self.now).directory)) }
     {
         self.names.names(alloc)
     }
 
     /// Makes a file under the number of the next body.
     pub fn create(&mut self, alloc: Global, name: &Name, bytes: &[u8]) -> Result<(), AllocError>
-        ensures fresh { IsFresh (state_of self.old).folder (state_of self.old).next }
+        ensures fresh { IsFresh (state_of self.old).directory (state_of self.old).next }
         ensures made { self.new
             ≡ (if is_ok result then with_next (PastCall.Made name.now bytes.now) self.old else self.old) }
     {
@@ -129,7 +129,7 @@ impl Past {
         offset: u64,
         bytes: &[u8],
     ) -> Result<(), AllocError>
-        requires { IsWithinFile (reading_of (state_of self.old).folder) name.now offset (length bytes.now) }
+        requires { IsWithinFile (reading_of (state_of self.old).directory) name.now offset (length bytes.now) }
         ensures { Follows (λ number. PastCall.Written number offset bytes.now) name.now self.old self.new result }
     {
         let number = self.number(name);
@@ -142,9 +142,9 @@ impl Past {
         Ok(())
     }
 
-    /// Makes the bytes of a file certain.
+    /// Syncs a file.
     pub fn sync(&mut self, name: &Name) -> Result<(), AllocError>
-        requires { IsSome (map.get (reading_of (state_of self.old).folder) name.now) }
+        requires { IsSome (map.get (reading_of (state_of self.old).directory) name.now) }
         ensures { Follows (λ number. PastCall.Synced number) name.now self.old self.new result }
     {
         let number = self.number(name);
@@ -154,7 +154,7 @@ impl Past {
         Ok(())
     }
 
-    /// Makes all names certain.
+    /// Syncs all names.
     pub fn sync_names(&mut self) -> Result<(), AllocError>
         ensures { self.new ≡ (if is_ok result then with_next PastCall.NamesSynced self.old else self.old) }
     {
@@ -164,7 +164,7 @@ impl Past {
         Ok(())
     }
 
-    /// Makes all names and all bytes certain.
+    /// Syncs all names and all bytes.
     pub fn settle(&mut self) -> Result<(), AllocError>
         ensures { self.new ≡ (if is_ok result then with_next PastCall.Settled self.old else self.old) }
     {
@@ -177,7 +177,7 @@ impl Past {
 
     /// Moves a file to another name.
     pub fn rename(&mut self, from: &Name, to: &Name) -> Result<(), AllocError>
-        requires { IsSome (map.get (reading_of (state_of self.old).folder) from.now) }
+        requires { IsSome (map.get (reading_of (state_of self.old).directory) from.now) }
         ensures { self.new
             ≡ (if is_ok result then with_next (PastCall.Renamed from.now to.now) self.old else self.old) }
     {
@@ -191,7 +191,7 @@ impl Past {
 
     /// Removes a name.
     pub fn remove(&mut self, name: &Name) -> Result<(), AllocError>
-        requires { IsSome (map.get (reading_of (state_of self.old).folder) name.now) }
+        requires { IsSome (map.get (reading_of (state_of self.old).directory) name.now) }
         ensures { self.new ≡ (if is_ok result then with_next (PastCall.Removed name.now) self.old else self.old) }
     {
         self.calls.reserve(1)?;
@@ -210,7 +210,7 @@ impl Past {
         nice: u8,
         started: bool,
     ) -> Result<(), AllocError>
-        requires { IsSome (map.get (reading_of (state_of self.old).folder) name.now) }
+        requires { IsSome (map.get (reading_of (state_of self.old).directory) name.now) }
         ensures { Follows (λ body. PastCall.HandedOver number body nice started) name.now self.old self.new result }
     {
         let body = self.number(name);

@@ -1,4 +1,4 @@
-//! A call that changed the folder, or what was handed over.
+//! A call that changed the directory, or what was started.
 use host_calls::{Bytes, Name};
 
 /// A call of the past. Bodies are numbered from 0 in the order in which they were made.

@@ -22,7 +22,7 @@ impl MemorySink {
     ghost use Rattle.memory_host.specs.MemorySink.{content_so_far, next_put, outlet_so_far};
 
     /// An empty sink. Its puts are counted from 0, and the one of the number `fails_at` writes nothing
-    /// and fails. A put that finds no memory is not counted.
+    /// and fails. A put that runs out of memory is not counted.
     pub fn make(alloc: Global, fails_at: Option<u64>) -> MemorySink
         ensures content { content_so_far result ≡ [] }
         ensures next { next_put result ≡ 0 }

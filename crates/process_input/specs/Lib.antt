@@ -1,3 +1,3 @@
-pub mod Folders
+pub mod Directories
 pub mod StartupError
 pub mod Umask

@@ -29,7 +29,7 @@ IsUmaskText line = IsNumeral 8 (without_leading_plus line) × (digits_value 8 (w
 -- the status tells this umask
 pub record TellsUmask (status : List ℕ) (umask : ℕ) : Type 0 where
   pub line : List ℕ
-  pub stands : IsUmaskLine status line
+  pub holds : IsUmaskLine status line
   pub spells : IsUmaskText line
   pub is : umask ≡ digits_value 8 (without_leading_plus line)
 

@@ -3,10 +3,10 @@ ghost use Rattle.std.specs.Prelude.{◌<◌, IfOk};
 
 use crate::environment::{variable, variable_or, variables_of};
 use crate::umask::umask_of;
-use cause_output::Caller;
 use civil_minute::zone_of;
 use job_script::Context;
 use std::alloc::AllocError;
+use tool_output::Caller;
 
 /// The caller of this process: the user by `LOGNAME`, the directory by `PWD` and the zone by `TZ`.
 pub fn caller_of(rt: &HostRuntime) -> Result<Caller, AllocError>

@@ -29,7 +29,7 @@ pub fn variable_or(rt: &HostRuntime, name: &str, usual: &str) -> Result<Text, Al
     }
 }
 
-/// The value of a variable, where it is there and is a text.
+/// The value of a variable, where it exists and is a text.
 pub fn variable(rt: &HostRuntime, name: &str) -> Result<Option<String>, AllocError> {
     match env::var(rt, name) {
         Ok(value) => Ok(Some(value)),

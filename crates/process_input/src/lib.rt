@@ -5,15 +5,15 @@
 #![tactic(auto)]
 
 mod caller;
+mod directory;
 mod environment;
-mod folder;
 mod startup_error;
 mod streams;
 mod umask;
 
 pub use caller::caller_of;
+pub use directory::{no_spool, take_directory};
 pub use environment::{environment_variables, process_words, variable, variable_or, variables_of};
-pub use folder::{no_spool, take_folder};
 pub use startup_error::{StartupError, say_startup_error};
 pub use streams::held_streams;
 pub use umask::{umask_in, umask_of};

@@ -6,7 +6,7 @@ use std::os::fd::AsRawFd;
 const LAST_STREAM: i32 = 2;
 
 /// Files that take the places of the standard streams that this process was given closed. Else the lock of the spool
-/// or a job's file would get such a place, and take what is printed. Each is a folder, so reads and writes fail.
+/// or a job's file would get such a place, and take what is printed. Each is a directory, so reads and writes fail.
 pub fn held_streams(rt: &HostRuntime) -> [Option<File>; 3] {
     let mut held = [None, None, None];
     for place in &mut held {

@@ -9,7 +9,7 @@ const LAST_UMASK: u16 = 0o777;
 
 const USUAL_UMASK: u16 = 0o022;
 
-/// The umask of this process, as the system tells it, else the usual one.
+/// The umask of this process, as the system reports it, else the usual one.
 pub fn umask_of(rt: &HostRuntime) -> u16
     ensures { result < 512 }
 {
@@ -36,7 +36,7 @@ pub fn umask_in(status: &str) -> Option<u16>
     Some(umask)
 }
 
-// What stands after the first head of such a line, up to its end.
+// What is after the first head of such a line, up to its end.
 fn umask_line(status: &str) -> Option<&str>
     ensures { MatchOption result (HasNoUmaskLine status.now) (λ line. IsUmaskLine status.now line.now) }
 {

@@ -1,2 +1,4 @@
+pub mod Dues
 pub mod Order
 pub mod Queues
+pub mod TwoLines

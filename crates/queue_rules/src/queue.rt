@@ -1,7 +1,7 @@
 //! The rules of one queue and of one job.
 ghost use Rattle.std.specs.Prelude.{◌≡◌, IsTrue, IfSome};
 ghost use Rattle.std.specs.Char.{is_ascii_alphabetic};
-ghost use Rattle.clock_range.specs.ClockRange.{IsClockSecond};
+ghost use Rattle.host_calls.specs.ClockRange.{IsClockSecond};
 ghost use Rattle.queue_rules.specs.Queues.{niceness_of, is_due, has_rested, may_start_batch};
 
 use spool_model::Row;

@@ -1,6 +1,6 @@
 -- The exit status of a process (own).
 use Rattle.std.specs.Prelude.{ℕ, Result, Ok, Err}
-use Rattle.at_stat.specs.declared.status.StatStatus.{StatStatus}
+use Rattle.at_stat.specs.declared.status.StatExit.{StatExit}
 use Rattle.listing_text.specs.Cause.{code_of}
 use Rattle.listing_text.specs.declared.status.Status.{Status}
 use Rattle.process_input.specs.StartupError.{cause_of_startup}
@@ -12,6 +12,6 @@ code_of_end (Ok status) = status.code
 code_of_end (Err why) = code_of (cause_of_startup why)
 
 -- the same of atstat
-abbrev pub code_of_stat_end : Result StatStatus StartupError → ℕ
+abbrev pub code_of_stat_end : Result StatExit StartupError → ℕ
 code_of_stat_end (Ok status) = status.code
 code_of_stat_end (Err why) = code_of (cause_of_startup why)

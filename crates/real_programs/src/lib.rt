@@ -8,25 +8,25 @@ mod account;
 mod at;
 mod check;
 mod cron;
+mod directories;
 mod exit;
-mod folders;
 mod next;
 mod post;
 mod stat;
 mod streams;
 mod trim;
 
-pub use account::{account_answer, account_over, run_account};
-pub use at::{at_answer, at_over, run_at};
-pub use check::{check_answer, check_over, run_check};
-pub use cron::{cron_answer, cron_over, run_cron};
+pub use account::{run_account, run_account_on_spool, run_account_with};
+pub use at::{run_at, run_at_on_spool, run_at_with};
+pub use check::{run_check, run_check_on_spool, run_check_with};
+pub use cron::{run_cron, run_cron_on_spool, run_cron_with};
+pub use directories::{RealDirectory, existing_directory, new_directory, spool_directory};
 pub use exit::exit_code;
-pub use folders::{RealFolder, existing_folder, new_folder, spool_folder};
-pub use next::{next_answer, next_over};
-pub use post::{post_answer, post_over, run_post};
-pub use stat::{run_stat, stat_answer, stat_exit_code, stat_over};
+pub use next::{run_next, run_next_with};
+pub use post::{run_post, run_post_on_spool, run_post_with};
+pub use stat::{run_stat, run_stat_on_spool, run_stat_with, stat_exit_code};
 pub use streams::{
     RealClock, RealErrors, RealInput, RealOutput, real_clock, real_errors, real_input, real_output,
     watching_clock,
 };
-pub use trim::{trim_answer, trim_over};
+pub use trim::{run_trim_on_spool, run_trim_with};

@@ -1,23 +1,23 @@
 //! The next minutes of a crontab over the real things.
 ghost use Rattle.std.specs.Prelude.{◌≡◌, IfOk, map, string_bytes};
-ghost use Rattle.cause_output.specs.Sinks.{sink_at};
+ghost use Rattle.tool_output.specs.Sinks.{sink_at};
 ghost use Rattle.listing_text.specs.Cause.{status_of};
-ghost use Rattle.cron_listing.specs.Running.{NextRuns, listing_at, listing_telling};
-ghost use Rattle.cron_listing.specs.Words.{next_asked};
+ghost use Rattle.cron_turn.specs.ListingRun.{NextRuns, listing_at, listing_telling};
+ghost use Rattle.cron_turn.specs.ListingWords.{next_asked};
 
 use crate::streams::{
     RealClock, RealErrors, RealInput, RealOutput, real_clock, real_errors, real_input, real_output,
 };
 use civil_minute::Zone;
-use cron_listing::next_program;
+use cron_turn::next_program;
 use host_calls::{Inputs, Readings, Sink};
 use listing_text::Status;
 use std::alloc::{AllocError, Global};
-use witnessed_host::{InputWitness, Silent};
+use witnessed_host::{InputWitness, Unchecked};
 
 /// Lists the next minutes at which the entries of a crontab are due, over the real things. What the crontab holds is what
 /// the witness knows; the clock and the two outputs tell what they answered and took.
-pub fn next_answer<V: InputWitness + Drop>(
+pub fn run_next_with<V: InputWitness + Drop>(
     alloc: Global,
     words: &[String],
     zone: &Zone,
@@ -42,15 +42,15 @@ pub fn next_answer<V: InputWitness + Drop>(
     next_program(alloc, words, zone, clock, input, output, errors)
 }
 
-/// The same over the streams of this process, beside which nobody disputes anything. No spool is looked at.
-pub fn next_over(rt: &HostRuntime, words: &[String], zone: &Zone) -> Result<Status, AllocError>
+/// The same over the streams of this process, next to which nobody disputes anything. No spool is looked at.
+pub fn run_next(rt: &HostRuntime, words: &[String], zone: &Zone) -> Result<Status, AllocError>
     ensures code { IfOk result (λ status. status ≡ status_of status.cause) }
 {
     let mut clock = real_clock(rt)?;
-    let mut input = real_input(rt, Silent)?;
+    let mut input = real_input(rt, Unchecked)?;
     let mut output = real_output(rt)?;
     let mut errors = real_errors(rt)?;
-    Ok(next_answer(
+    Ok(run_next_with(
         rt.alloc(),
         words,
         zone,

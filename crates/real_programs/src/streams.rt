@@ -4,15 +4,14 @@ ghost use Rattle.std.specs.Prelude.{◌≡◌, [], IfOk};
 ghost use Rattle.std.specs.Path.{IsAbsolute};
 
 use host_calls::Name;
-use noted_streams::{NotedReadings, NotedSink};
 use std::alloc::AllocError;
 use unix_host::{UnixErr, UnixInputs, UnixOut, UnixReadings};
-use witnessed_host::{InputWitness, WitnessedInputs};
+use witnessed_host::{InputWitness, NotedReadings, NotedSink, WitnessedInputs};
 
 /// The clock and the load of the machine, which tell what they answered.
 pub type RealClock = NotedReadings<UnixReadings<HostRuntime>>;
 
-/// Standard input and the files of the system, beside a witness.
+/// Standard input and the files of the system, next to a witness.
 pub type RealInput<V> = WitnessedInputs<UnixInputs<HostRuntime>, V>;
 
 /// Standard output, which tells what was put.
@@ -28,20 +27,20 @@ pub fn real_clock(rt: &HostRuntime) -> Result<RealClock, AllocError>
     Ok(NotedReadings::new(UnixReadings::make(rt.clone()?)))
 }
 
-/// The same, whose rests end at a full second, and earlier where one of these files of a folder has changed.
+/// The same, whose rests end at a full second, and earlier where one of these files of a directory has changed.
 pub fn watching_clock(
     rt: &HostRuntime,
-    folder: &str,
+    directory: &str,
     names: &[Name],
 ) -> Result<RealClock, AllocError>
-    requires { IsAbsolute folder.now }
+    requires { IsAbsolute directory.now }
     ensures nothing { IfOk result (λ clock. clock.trace.items ≡ []) }
 {
-    let readings = UnixReadings::watching(rt.clone()?, rt.alloc(), folder, names)?;
+    let readings = UnixReadings::watching(rt.clone()?, rt.alloc(), directory, names)?;
     Ok(NotedReadings::new(readings))
 }
 
-/// The input, beside this witness.
+/// The input, next to this witness.
 pub fn real_input<V: InputWitness + Drop>(
     rt: &HostRuntime,
     witness: V,

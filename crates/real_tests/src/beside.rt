@@ -1,14 +1,14 @@
-//! What a real folder answers the programs beside the commands, compared with the model.
+//! What a real directory answers the programs next to the commands, compared with the model.
 ghost use Rattle.host_calls.specs.Session.{IsOutside};
 
 use crate::sessions::{Beside, rounds_beside};
-use crate::spools::{KeptFolder, clear, fresh_spool, kept_folder, line};
+use crate::spools::{KeptDirectory, clear, fresh_spool, kept_directory, line};
 use crate::tally::Tally;
 use host_calls::Host;
 use std::test::Fail;
 
-// What is done to the folder, and how many rounds come then: as it is, without room for a temporary file, without a lock, and
-// with both again.
+// What is done to the directory, and how many rounds come then: as it is, without room for a temporary file, without a lock,
+// and with both again.
 const PHASES: [(&str, u32); 4] = [
     (":", 24),
     ("mkdir \"$1/.MTMP\" \"$1/.CTMP\" \"$1/.ATMP\"", 2),
@@ -19,20 +19,20 @@ const PHASES: [(&str, u32); 4] = [
     ("rmdir \"$1.lock\"", 2),
 ];
 
-// How many of so many rounds went well, to which this was done to the folder before.
+// How many of so many rounds went well, to which this was done to the directory before.
 fn phase<H: Host>(
     rt: &HostRuntime,
     program: Beside,
     path: &str,
     phase: (&str, u32),
     before: u32,
-    folder: &mut H,
+    directory: &mut H,
 ) -> Result<u32, Fail>
-    requires { IsOutside (H.session folder.old) }
-    ensures { IsOutside (H.session folder.new) }
+    requires { IsOutside (H.session directory.old) }
+    ensures { IsOutside (H.session directory.new) }
 {
     line(rt, phase.0, path)?;
-    Ok(rounds_beside(rt.alloc(), program, before, phase.1, folder)?)
+    Ok(rounds_beside(rt.alloc(), program, before, phase.1, directory)?)
 }
 
 // How many rounds of each phase went well.
@@ -40,15 +40,15 @@ fn phases<H: Host>(
     rt: &HostRuntime,
     program: Beside,
     path: &str,
-    folder: &mut H,
+    directory: &mut H,
 ) -> Result<Vec<u32>, Fail>
-    requires { IsOutside (H.session folder.old) }
-    ensures { IsOutside (H.session folder.new) }
+    requires { IsOutside (H.session directory.old) }
+    ensures { IsOutside (H.session directory.new) }
 {
     let mut wells = Vec::new(rt.alloc());
     let mut before: u32 = 0;
     for one in PHASES {
-        wells.push(phase(rt, program, path, one, before, folder)?)?;
+        wells.push(phase(rt, program, path, one, before, directory)?)?;
         before = before.saturating_add(one.1);
     }
     Ok(wells)
@@ -62,20 +62,20 @@ struct Compared {
     after: Tally,
 }
 
-// The program over this folder.
+// The program over this directory.
 fn compare(
     rt: &HostRuntime,
     program: Beside,
     path: &str,
-    folder: &mut KeptFolder,
+    directory: &mut KeptDirectory,
 ) -> Result<Compared, Fail>
-    requires { IsOutside (⟦<KeptFolder as Host>⟧.session folder.old) }
+    requires { IsOutside (⟦<KeptDirectory as Host>⟧.session directory.old) }
 {
-    let wells = phases(rt, program, path, folder)?;
-    let alone = folder.witness().tally();
+    let wells = phases(rt, program, path, directory)?;
+    let alone = directory.witness().tally();
     line(rt, "echo 1 >\"$1/stranger\"", path)?;
-    let _ = rounds_beside(rt.alloc(), program, 100, 2, folder)?;
-    let after = folder.witness().tally();
+    let _ = rounds_beside(rt.alloc(), program, 100, 2, directory)?;
+    let after = directory.witness().tally();
     Ok(Compared {
         wells,
         alone,
@@ -83,12 +83,12 @@ fn compare(
     })
 }
 
-// The program over a folder of its own.
+// The program over a directory of its own.
 fn compared_over(rt: &HostRuntime, program: Beside, name: &str) -> Result<Compared, Fail> {
     let path = fresh_spool(rt, name)?;
-    let mut folder = kept_folder(rt, path.as_str())?;
-    let compared = compare(rt, program, path.as_str(), &mut folder)?;
-    drop(folder);
+    let mut directory = kept_directory(rt, path.as_str())?;
+    let compared = compare(rt, program, path.as_str(), &mut directory)?;
+    drop(directory);
     clear(rt, path.as_str())?;
     Ok(compared)
 }

@@ -1,4 +1,4 @@
-//! Commands over a folder, by the program.
+//! Commands over a directory, by the program.
 ghost use Rattle.std.specs.Prelude.{◌<◌, IfOk};
 ghost use Rattle.host_calls.specs.Session.{IsOutside};
 

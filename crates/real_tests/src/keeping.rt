@@ -1,4 +1,4 @@
-//! A witness who keeps what a folder holds.
+//! A witness who keeps what a directory holds.
 ghost use Rattle.std.specs.Prelude.{◌≡◌, true, take, drop, IfOk};
 ghost use Rattle.real_tests.specs.Kept.{kept_world};
 
@@ -7,13 +7,12 @@ use crate::step::Step;
 use crate::tally::Tally;
 use host_calls::{Asked, Child, Ending, EnterFault, Host, HostFault, Name, StartFault};
 use memory_host::MemoryHost;
-use noted_streams::Trace;
 use std::alloc::{AllocError, Global};
 use std::snapshot::Snapshot;
-use witnessed_host::Witness;
+use witnessed_host::{Trace, Witness};
 
-/// Knows a folder by a model of it in memory, which makes each call that the folder says went well. He disputes each
-/// answer that the model does not give.
+/// Knows a directory by a model of it in memory, which makes each call that the directory says went well. He disputes
+/// each answer that the model does not give.
 #[derive(Drop)]
 pub struct Keeping {
     alloc: Global,
@@ -25,7 +24,7 @@ pub struct Keeping {
 }
 
 impl Keeping {
-    /// Knows that the folder holds the files of this model.
+    /// Knows that the directory holds the files of this model.
     pub fn new(alloc: Global, model: MemoryHost) -> Keeping
         requires { model.is_inside ≡ true }
     {

@@ -1,9 +1,9 @@
-//! What a real folder answers, compared with the model.
+//! What a real directory answers, compared with the model.
 ghost use Rattle.std.specs.Prelude.{◌<◌};
 ghost use Rattle.host_calls.specs.Session.{IsOutside};
 
 use crate::commands::rounds;
-use crate::spools::{KeptFolder, clear, fresh_spool, kept_folder, line};
+use crate::spools::{KeptDirectory, clear, fresh_spool, kept_directory, line};
 use crate::tally::Tally;
 use host_calls::Host;
 use std::test::Fail;
@@ -15,27 +15,32 @@ struct Played {
     tally: Tally,
 }
 
-// So many rounds over this folder, after so many others.
-fn play(rt: &HostRuntime, before: u32, count: u32, folder: &mut KeptFolder) -> Result<Played, Fail>
-    requires outside { IsOutside (⟦<KeptFolder as Host>⟧.session folder.old) }
+// So many rounds over this directory, after so many others.
+fn play(
+    rt: &HostRuntime,
+    before: u32,
+    count: u32,
+    directory: &mut KeptDirectory,
+) -> Result<Played, Fail>
+    requires outside { IsOutside (⟦<KeptDirectory as Host>⟧.session directory.old) }
     requires few { before < 1000000 }
     requires few_more { count < 1000 }
-    ensures { IsOutside (⟦<KeptFolder as Host>⟧.session folder.new) }
+    ensures { IsOutside (⟦<KeptDirectory as Host>⟧.session directory.new) }
 {
-    let well = rounds(rt.alloc(), before, count, folder)?;
-    let tally = folder.witness().tally();
+    let well = rounds(rt.alloc(), before, count, directory)?;
+    let tally = directory.witness().tally();
     Ok(Played { well, tally })
 }
 
-// So many rounds over a folder of its own, and three more after a stranger put a file.
+// So many rounds over a directory of its own, and three more after a stranger put a file.
 fn played_over(rt: &HostRuntime, path: &str, count: u32) -> Result<(Played, Played), Fail>
     requires { count < 1000 }
 {
-    let mut folder = kept_folder(rt, path)?;
-    let alone = play(rt, 0, count, &mut folder)?;
+    let mut directory = kept_directory(rt, path)?;
+    let alone = play(rt, 0, count, &mut directory)?;
     line(rt, "echo 1 >\"$1/stranger\"", path)?;
-    let after = play(rt, count, 3, &mut folder)?;
-    drop(folder);
+    let after = play(rt, count, 3, &mut directory)?;
+    drop(directory);
     Ok((alone, after))
 }
 

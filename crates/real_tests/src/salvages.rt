@@ -1,26 +1,26 @@
-//! What is saved of a real folder into another one, compared with the models of both.
+//! What is saved of a real directory into another one, compared with the models of both.
 ghost use Rattle.host_calls.specs.Session.{IsOutside};
 
 use crate::commands::NOW;
 use crate::sessions::{Beside, rounds_beside, saved_status};
-use crate::spools::{clear, fresh_spool, kept_folder, line};
+use crate::spools::{clear, fresh_spool, kept_directory, line};
 use crate::tally::Tally;
 use host_calls::Host;
 use std::test::Fail;
 
-// What a salvage answered, and whether the witness of the new folder disputed an answer.
+// What a salvage answered, and whether the witness of the new directory disputed an answer.
 #[derive(Clone, Copy, Debug, PartialEq, Eq)]
 struct Saved {
     code: u8,
     disputed: bool,
 }
 
-// What a salvage into the fresh folder at this path answers.
+// What a salvage into the fresh directory at this path answers.
 fn saved_at<H: Host>(rt: &HostRuntime, path: &str, from: &mut H) -> Result<Saved, Fail>
     requires { IsOutside (H.session from.old) }
     ensures { IsOutside (H.session from.new) }
 {
-    let mut to = kept_folder(rt, path)?;
+    let mut to = kept_directory(rt, path)?;
     let code = saved_status(rt.alloc(), &["atcheck", "--salvage"], NOW, from, &mut to);
     let disputed = to.witness().tally().disputes > 0;
     drop(to);
@@ -30,7 +30,7 @@ fn saved_at<H: Host>(rt: &HostRuntime, path: &str, from: &mut H) -> Result<Saved
     })
 }
 
-// The same, where this was done to the folder before.
+// The same, where this was done to the directory before.
 fn saved_into<H: Host>(rt: &HostRuntime, text: &str, from: &mut H) -> Result<Saved, Fail>
     requires { IsOutside (H.session from.old) }
     ensures { IsOutside (H.session from.new) }
@@ -54,7 +54,7 @@ fn each_saved<H: Host>(rt: &HostRuntime, texts: &[&str], from: &mut H) -> Result
     Ok(saves)
 }
 
-// What was done to a fresh folder, and what a salvage into it is to answer then.
+// What was done to a fresh directory, and what a salvage into it is to answer then.
 const TEXTS: [&str; 5] = [
     ":",
     "mkdir \"$1/.TMP\"",
@@ -65,7 +65,7 @@ const TEXTS: [&str; 5] = [
 
 const WANTED: [(u8, bool); 5] = [(0, false), (2, false), (2, true), (2, true), (0, false)];
 
-// How many of twelve rounds over this folder went well, and what salvages of it answer.
+// How many of twelve rounds over this directory went well, and what salvages of it answer.
 fn salvages<H: Host>(rt: &HostRuntime, from: &mut H) -> Result<(u32, Vec<Saved>), Fail>
     requires { IsOutside (H.session from.old) }
     ensures { IsOutside (H.session from.new) }
@@ -74,9 +74,9 @@ fn salvages<H: Host>(rt: &HostRuntime, from: &mut H) -> Result<(u32, Vec<Saved>)
     Ok((well, each_saved(rt, &TEXTS, from)?))
 }
 
-// The same over the folder at this path, and what its witness counted.
+// The same over the directory at this path, and what its witness counted.
 fn salvages_of(rt: &HostRuntime, path: &str) -> Result<((u32, Vec<Saved>), Tally), Fail> {
-    let mut from = kept_folder(rt, path)?;
+    let mut from = kept_directory(rt, path)?;
     let seen = salvages(rt, &mut from)?;
     let tally = from.witness().tally();
     drop(from);

@@ -1,4 +1,4 @@
-//! Sessions of mail, of a crontab, of accounts, of states and of the checker over a folder.
+//! Sessions of mail, of a crontab, of accounts, of states and of the checker over a directory.
 ghost use Rattle.host_calls.specs.Session.{IsOutside};
 
 use crate::commands::{NOW, ann, status, texts};
@@ -12,7 +12,7 @@ use memory_host::{Files, MemoryHost, MemorySink, Plan};
 use spool_check::check_program;
 use std::alloc::{AllocError, Global};
 
-/// A program beside the commands.
+/// A program next to the commands.
 #[derive(Clone, Copy, Debug)]
 pub enum Beside {
     Mail,
@@ -22,7 +22,7 @@ pub enum Beside {
     Check,
 }
 
-// The status of one call of the program over the folder, at this second always.
+// The status of one call of the program over the directory, at this second always.
 fn session<H: Host>(
     alloc: Global,
     program: Beside,
@@ -112,7 +112,7 @@ fn check<H: Host>(alloc: Global, now: i64, host: &mut H) -> Result<u8, AllocErro
     saved_status(alloc, &["atcheck"], now, host, &mut to)
 }
 
-/// The status of the checker of these words over both folders.
+/// The status of the checker of these words over both directories.
 pub fn saved_status<H: Host, G: Host>(
     alloc: Global,
     words: &[&str],

@@ -5,7 +5,7 @@ use Rattle.std.proofs.Math.Seq.{take-add}
 use Rattle.std.specs.List.{All}
 use Rattle.std.proofs.lemmas.List.Elements.{All-nil, All-cons}
 use Rattle.record_lines.specs.Lines.{AreLegalAfter, AreRecordLines, AreSpelled, BeginsWith, CanBeSpelled, HasNoNewline, HasBadFirstLine, IsFirstBadLine, IsGoodLine, no_newline, no_record}
-use Rattle.record_lines.proofs.LineLemmas.{newline_stands, one_split}
+use Rattle.record_lines.proofs.LineLemmas.{newline_holds, one_split}
 
 -- a line spells one record at most
 abbrev pub SpellsOne : {R : Type 0} → (List ℕ → R → Type 0) → Type 0
@@ -40,7 +40,7 @@ lines_both spells legal bytes added records more file second may = record {
   in_turn = legal_both legal [] records more file.in_turn may;
 }
 
--- a line that was added spells one record more
+-- a line that was added spells one more record
 line_more : {R : Type 0} (spells : List ℕ → R → Type 0) (bytes line : List ℕ) (records : List R) (one : R)
     → AreSpelled spells bytes records → HasNoNewline line → spells line one
     → AreSpelled spells ((bytes ++ line) ++ 10 ∷ []) (records ++ one ∷ [])
@@ -132,7 +132,7 @@ not_bad spells legal early (one ∷ later) bytes more some (rest, (begins, spell
   begin = ap (λ text. text ++ more) begins.parted ∙ append_assoc begins.line (10 ∷ rest) more
 
   by_case : HasBadFirstLine spells legal early (bytes ++ more) → ⊥
-  by_case (no_newline none) = newline_stands begins.line (rest ++ more) (subst HasNoNewline begin none)
+  by_case (no_newline none) = newline_holds begins.line (rest ++ more) (subst HasNoNewline begin none)
   by_case (no_record line left whole parted none) =
       let both = one_split 10 line begins.line left (rest ++ more) whole begins.whole (sym parted ∙ begin) in
       none one (subst (λ text. spells text one) (sym both.0) begins.spelled) may

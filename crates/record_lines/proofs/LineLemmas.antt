@@ -90,11 +90,11 @@ pub both_none : (first second : List ℕ) → HasNoNewline first → HasNoNewlin
 both_none first second one two = list_any-append (λ byte. byte == 10) first second ∙ rw (one, two) refl
 
 -- a newline ends what has none
-pub newline_stands : (line rest : List ℕ) → HasNoNewline (line ++ 10 ∷ rest) → ⊥
-newline_stands [] rest none = cc
-newline_stands (byte ∷ line) rest none = newline_stands line rest (or_parts _ _ none).1
+pub newline_holds : (line rest : List ℕ) → HasNoNewline (line ++ 10 ∷ rest) → ⊥
+newline_holds [] rest none = cc
+newline_holds (byte ∷ line) rest none = newline_holds line rest (or_parts _ _ none).1
 
--- what stands after a letter and its space
+-- what is after a letter and its space
 pub after_space : (line rest : List ℕ) (letter : ℕ) → line ≡ letter ∷ 32 ∷ rest → take (length line - 2) (drop 2 line) ≡ rest
 after_space line rest letter parted =
     ap (λ text. take (length text - 2) (drop 2 text)) parted ∙ take_all (length (letter ∷ 32 ∷ rest) - 2) rest (omega arith)

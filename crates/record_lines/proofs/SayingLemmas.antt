@@ -1,4 +1,4 @@
--- What lists of records say of a number, with one record more.
+-- What lists of records say of a number, with one more record.
 use Rattle.std.proofs.Common.{◌≡◌, ◌∙◌, ℕ, Bool, true, false, List, [], ◌∷◌, ◌++◌, Option, Some, cond, refl, sym, ap, subst, arith}
 use Rattle.std.specs.Prelude.{◌||◌, ◌&&◌, ◌==◌}
 use Rattle.std.specs.BTreeMap as tree
@@ -10,7 +10,7 @@ use Rattle.std.proofs.lemmas.Bool.{eqb-true, or_parts}
 use Rattle.std.proofs.lemmas.Bool.Decides.{nat_tests}
 use Rattle.std.proofs.lemmas.List.Folds.{list_any-append}
 
--- one record more
+-- one more record
 pub any_more : {R : Type 0} (test : R → Bool) (records : List R) (next : R) → list_any test (records ++ next ∷ []) ≡ (list_any test records || test next)
 any_more test records next = list_any-append test records (next ∷ []) ∙ ap (λ last. list_any test records || last) (or-false (test next))
 
@@ -44,14 +44,14 @@ pub at_number : (number other : ℕ) → is_at (nat_cmp number) other ≡ (numbe
 at_number number other = grind (arith, nat_tests)
 
 -- what holds of each number and its standing in a map holds once one number has another standing
-pub stand_more : {S : Type 0} (Stands : ℕ → Option S → Type 0) (old new : BTreeMap ℕ S) (number : ℕ) (standing : S)
+pub stand_more : {S : Type 0} (Holds : ℕ → Option S → Type 0) (old new : BTreeMap ℕ S) (number : ℕ) (standing : S)
     → ((other : ℕ) → tree.get nat_cmp new other ≡ cond (is_at (nat_cmp number) other) (Some standing) (tree.get nat_cmp old other))
-    → Stands number (Some standing) → ((other : ℕ) → (number == other) ≡ false → Stands other (tree.get nat_cmp old other))
-    → (other : ℕ) → Stands other (tree.get nat_cmp new other)
-stand_more Stands old new number standing updates here else other =
-    subst (Stands other) (sym (updates other ∙ ap (λ b. cond b (Some standing) (tree.get nat_cmp old other)) (at_number number other)))
+    → Holds number (Some standing) → ((other : ℕ) → (number == other) ≡ false → Holds other (tree.get nat_cmp old other))
+    → (other : ℕ) → Holds other (tree.get nat_cmp new other)
+stand_more Holds old new number standing updates here else other =
+    subst (Holds other) (sym (updates other ∙ ap (λ b. cond b (Some standing) (tree.get nat_cmp old other)) (at_number number other)))
     (held (number == other) refl)
   where
-    held : (test : Bool) → (number == other) ≡ test → Stands other (cond test (Some standing) (tree.get nat_cmp old other))
-    held true is = subst (λ n. Stands n (Some standing)) (eqb-true number other is) here
+    held : (test : Bool) → (number == other) ≡ test → Holds other (cond test (Some standing) (tree.get nat_cmp old other))
+    held true is = subst (λ n. Holds n (Some standing)) (eqb-true number other is) here
     held false is = else other is

@@ -16,7 +16,7 @@ pub trait Keeper<R: Copy> {
     fn allows(&self, next: &R) -> bool
         ensures { (before : List R) → tells before self.now → Decides result (legal before next.now) };
 
-    /// Takes one record more, which may come next.
+    /// Takes one more record, which may come next.
     fn add(&mut self, next: &R) -> Result<(), AllocError>
         ensures { OnOk result ((before : List R) → tells before self.old → legal before next.now
             → tells (before ++ next.now ∷ []) self.new) };

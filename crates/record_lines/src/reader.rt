@@ -7,7 +7,7 @@ ghost use Rattle.record_lines.specs.declared.reader.LinesFault.TheVariants as li
 use crate::{Keeper, LineRecord};
 use std::alloc::{AllocError, Global};
 
-/// Why a file has no records: its first bad line, by the offset of its first byte, or want of memory.
+/// Why a file has no records: its first bad line, by the offset of its first byte, or an out-of-memory error.
 #[derive(Clone, Copy, Debug, PartialEq, Eq)]
 pub enum LinesFault {
     At(usize),
@@ -79,7 +79,7 @@ fn line_end(rest: &[u8]) -> Option<usize>
     rest.iter().position(|byte| *byte == b'\n')
 }
 
-// Puts one record more after the others.
+// Puts one more record after the others.
 fn keep_record<R: LineRecord, K: Keeper<R>>(
     records: &mut Vec<R>,
     keeper: &mut K,

@@ -4,7 +4,7 @@ ghost use Rattle.record_lines.specs.Lines.{CanBeSpelled, IsLineAdded};
 
 use std::alloc::AllocError;
 
-/// A record that stands in a line of its own.
+/// A record that is in a line of its own.
 pub trait LineRecord: Copy {
     /// The line, without its newline, spells the record.
     ghost spells: { List ℕ → Self → Type 0 };
@@ -15,7 +15,7 @@ pub trait LineRecord: Copy {
         ensures none { IfNone result ((one : Self) → ¬ (spells line.now one)) };
 
     /// Adds the record's line, without its newline, to the text. Where memory is wanting, a part of it
-    /// may stand there.
+    /// may be there.
     fn write(&self, text: &mut Vec<u8>) -> Result<(), AllocError>
         requires { CanBeSpelled spells self.now }
         ensures { OnOk result (IsLineAdded spells self.now text.old.items text.new.items) };

@@ -1,4 +1,4 @@
--- What HaveChildren says of kids, as what a turn asks for and gives.
+-- What HaveChildren says of children, as what a turn requests and gives.
 use Rattle.std.proofs.Common.{◌≡◌, ◌==◌, ◌++◌, ℕ, Bool, true, List, ap, subst, sym}
 use Rattle.std.specs.Prelude.{Contains}
 use Rattle.std.proofs.lemmas.List.Elements.{Contains-append_left}

@@ -5,8 +5,8 @@ use Rattle.std.specs.declared.alloc.AllocError.{AllocError}
 use Rattle.at_day.specs.declared.report.DayReport.{DayReport}
 use Rattle.at_day.specs.Days.{IsDay, IsDayCut, IsDayOf, first_machine}
 use Rattle.at_day.specs.EventOutcomes.{EventOutcome, events_of, machine_after}
-use Rattle.day_events.specs.declared.event.Event.{Event}
-use Rattle.day_events.specs.declared.report.EventReport.{EventReport}
+use Rattle.at_day.specs.declared.event.Event.{Event}
+use Rattle.at_day.specs.declared.events_report.EventReport.{EventReport}
 use Rattle.daemon_turn.specs.declared.kid.Kid.{Kid}
 use Rattle.host_calls.specs.declared.child.Child.{Child}
 use Rattle.host_calls.specs.Session.{Session}
@@ -48,7 +48,7 @@ have_after_cut : (old new : MemoryHost) (kids : List Kid) → IsDayCut [] (first
 have_after_cut old new kids cut have =
     subst (λ (children : List Child). HaveChildren children kids) (sym (children_of_cut old new cut)) have
 
--- each kid of a daemon still has one of them
+-- each child of a daemon still has one of them
 pub have_after_days : (old new : MemoryHost) (kids : List Kid) (result : Result DayReport AllocError) →
     IfOk result (IsDay [] old new) → OnErr result (IsDayCut [] (first_machine old) new) →
     HaveChildren (memory_session old).children kids → HaveChildren (memory_session new).children kids

@@ -8,6 +8,6 @@ use Rattle.daemon_turn.specs.declared.kid.Kid.{Kid}
 abbrev pub is_one_of : List Child → Child → Bool
 is_one_of children child = list_any (λ other. child.id == other.id) children
 
--- Each kid has one of the children. It says what AreChildren does, and there is one proof of it at most.
+-- Each child has one of the children. It says what AreChildren does, and there is one proof of it at most.
 pub record HaveChildren (children : List Child) (kids : List Kid) : Type 0 where
   pub each : (kid : Kid) → Contains kids kid → is_one_of children kid.child ≡ true

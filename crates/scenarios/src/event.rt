@@ -18,7 +18,7 @@ pub enum Call {
     Cron,
     /// The checker.
     Check,
-    /// The same, after which the machine goes on in the folder of what was saved.
+    /// The same, after which the machine goes on in the directory of what was saved.
     Salvage,
 }
 
@@ -27,15 +27,15 @@ pub enum Call {
 pub enum ScenarioEvent {
     /// A call, with all its words.
     Call(Call, Vec<String>),
-    /// A new daemon without kids, with this limit of the load and this interval between batch starts.
+    /// A new daemon without children, with this limit of the load and this interval between batch starts.
     Daemon(u32, u32),
     /// One full turn of the daemon, at this second and with this load.
     Turn(i64, Option<u32>),
     /// A crash, and the machine comes up again.
     Reboot(u64, Option<u64>),
-    /// What the folder counts is printed.
+    /// What the directory counts is printed.
     Counts,
-    /// The folder, what was handed over and what was asked are printed.
+    /// The directory, what was started and what was asked are printed.
     Show,
 }
 

@@ -1,4 +1,4 @@
-//! The machine on which the events of a scenario happen: a spool folder in memory, and a daemon over it.
+//! The machine on which the events of a scenario happen: a spool directory in memory, and a daemon over it.
 ghost use Rattle.host_calls.specs.Session.{IsOutside};
 ghost use Rattle.memory_host.specs.Host.{memory_session};
 ghost use Rattle.scenarios.specs.Machine.{HaveChildren};
@@ -12,14 +12,14 @@ use at_account::account_program;
 use at_day::{INTERVAL, LIMIT, day, program};
 use at_mail::post_program;
 use at_stat::stat_program;
-use clock_range::is_clock_second;
 use cron_turn::cron_program;
 use daemon_turn::{Daemon, Mode};
+use host_calls::is_clock_second;
 use memory_host::{Files, MemoryHost, Plan};
 use spool_check::check_program;
 use std::alloc::{AllocError, Global};
 
-/// A spool folder in memory, and a daemon whose kids are children of it.
+/// A spool directory in memory, and a daemon whose children are children of it.
 #[derive(Drop)]
 pub struct Machine {
     host: MemoryHost,
@@ -99,7 +99,7 @@ impl Machine {
         Ok(show_turn(alloc, &report, transcript)?)
     }
 
-    // Does what the words ask for.
+    // Does what the words request.
     fn run(
         &mut self,
         alloc: Global,
@@ -125,7 +125,7 @@ impl Machine {
         show_run(alloc, "run", status.code, out, err, rested, transcript)
     }
 
-    // Counts the jobs, as the words ask for it.
+    // Counts the jobs, as the words request it.
     fn account(
         &mut self,
         alloc: Global,
@@ -140,7 +140,7 @@ impl Machine {
         show_run(alloc, "account", status.code, out, err, 0, transcript)
     }
 
-    // Shows what became of the jobs, as the words ask for it.
+    // Shows what became of the jobs, as the words request it.
     fn stat(
         &mut self,
         alloc: Global,
@@ -164,7 +164,7 @@ impl Machine {
         show_run(alloc, "stat", status.code, out, err, rested, transcript)
     }
 
-    // Makes sessions of mail, as the words ask for it.
+    // Makes sessions of mail, as the words request it.
     fn post(
         &mut self,
         alloc: Global,
@@ -179,7 +179,7 @@ impl Machine {
         show_run(alloc, "post", status.code, &[], err, rested, transcript)
     }
 
-    // Makes sessions of a crontab, as the words ask for it.
+    // Makes sessions of a crontab, as the words request it.
     fn cron(
         &mut self,
         alloc: Global,
@@ -203,7 +203,7 @@ impl Machine {
         show_run(alloc, "cron", status.code, &[], err, rested, transcript)
     }
 
-    // Lists the faults of the folder, as the words ask for it. What is saved goes into a folder of its own.
+    // Lists the faults of the directory, as the words request it. What is saved goes into a directory of its own.
     fn check(
         &mut self,
         alloc: Global,
@@ -227,8 +227,8 @@ impl Machine {
         show_run(alloc, "check", status.code, out, err, 0, transcript)
     }
 
-    // Saves what the folder has into one of its own, as the words ask for it, goes on in that one with a new daemon, and
-    // prints its files.
+    // Saves what the directory has into one of its own, as the words request it, goes on in that one with a new daemon,
+    // and prints its files.
     fn salvage(
         &mut self,
         alloc: Global,
@@ -273,7 +273,7 @@ impl Machine {
         transcript.line("reboot")
     }
 
-    // Prints the folder, what was handed over and what was asked.
+    // Prints the directory, what was started and what was asked.
     fn show(&self, alloc: Global, transcript: &mut Transcript) -> Result<(), AllocError> {
         transcript.line("show")?;
         self.show_files(alloc, transcript)?;

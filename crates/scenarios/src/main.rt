@@ -34,7 +34,7 @@ fn main(rt: HostRuntime) -> ExitCode {
     }
 }
 
-// Runs the files that the arguments name, or all that stand here.
+// Runs the files that the arguments name, or all that are here.
 fn run_files(rt: &HostRuntime) -> Result<()> {
     let mut paths = env::args(rt)?.skip(1).collect::<Vec<String>>(rt.alloc())?;
     if paths.is_empty() {
@@ -46,7 +46,7 @@ fn run_files(rt: &HostRuntime) -> Result<()> {
     Ok(())
 }
 
-// The names of the scenario files that stand here, in their order.
+// The names of the scenario files that are here, in their order.
 fn scenario_files(rt: &HostRuntime) -> Result<Vec<String>> {
     let mut names = Vec::new(rt.alloc());
     for entry in fs::read_dir(rt, ".")? {

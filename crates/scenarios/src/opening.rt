@@ -1,4 +1,4 @@
-//! The folder and the plan with which a scenario begins.
+//! The directory and the plan with which a scenario begins.
 ghost use Rattle.std.specs.Prelude.{IfOk};
 ghost use Rattle.host_calls.specs.Session.{IsOutside};
 ghost use Rattle.memory_host.specs.Host.{memory_session};

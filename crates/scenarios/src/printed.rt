@@ -89,7 +89,7 @@ fn end_line(alloc: Global, end: &TurnEnd) -> Result<String, AllocError> {
     }
 }
 
-/// What a folder counts, or why it could not be counted.
+/// What a directory counts, or why it could not be counted.
 pub fn counts_line(
     alloc: Global,
     counts: &Result<Counts, StoreFault>,

@@ -1,6 +1,6 @@
 //! What the events print.
-use hex_digits::byte_of;
 use std::alloc::{AllocError, Global};
+use text_reader::byte_of;
 
 /// The lines that were printed so far, as bytes of ASCII.
 #[derive(Drop)]

@@ -1,8 +1,8 @@
-//! The words of a line: what stands between spaces, and what stands in double quotes.
+//! The words of a line: what is between spaces, and what is in double quotes.
 use crate::Why;
-use hex_digits::digit_of;
 use std::alloc::Global;
 use std::mem;
+use text_reader::digit_of;
 
 /// What the next byte of a line is to the words before it.
 #[derive(Clone, Copy)]

@@ -3,9 +3,9 @@ use Rattle.std.proofs.Common.{◌≡◌, ℕ, zero, suc, ◌+◌, ◌<◌, ◌�
 use Rattle.std.specs.Prelude.{◌==◌, ◌&&◌, Ok, Err, slice_get, slice_index, if◌then◌else◌}
 use Rattle.host_calls.specs.declared.damage.Damage.{Damage}
 use Rattle.host_calls.specs.Damages.{damage_at}
-use Rattle.hex_digits.specs.Values.{number_in}
+use Rattle.text_reader.specs.HexValues.{number_in}
 use Rattle.std.proofs.lemmas.Bool.{and_from, and_parts, eqb-true}
-use Rattle.hex_digits.proofs.ValueLemmas.{number_given, number_spelled}
+use Rattle.text_reader.proofs.ValueLemmas.{number_given, number_spelled}
 use Rattle.sequence_file.specs.Faults.{IsSequenceDamage}
 use Rattle.sequence_file.specs.LastNumber.{fitting, last_in, longest_fitting, number_or_damage, sequence_as, sequence_in}
 use Rattle.sequence_file.specs.Laws.{LastNumbersAreGiven, LastNumbersAreDamaged}

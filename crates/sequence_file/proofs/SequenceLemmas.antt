@@ -10,11 +10,11 @@ use Rattle.std.proofs.lemmas.List.{ext_get_or, get_or-append_right, get_or-repli
 use Rattle.std.proofs.Math.Seq.{get_or-append_seam}
 use Rattle.std.proofs.lemmas.Nat.{mod_below}
 use Rattle.std.proofs.Math.ListN.{get_or-append}
-use Rattle.hex_digits.specs.Digits.{SpellsNumber, digit_at, digit_byte}
-use Rattle.hex_digits.proofs.DigitLemmas.{read_more}
-use Rattle.hex_digits.proofs.ValueLemmas.{digit_fits}
+use Rattle.text_reader.specs.HexDigits.{SpellsNumber, digit_at, digit_byte}
+use Rattle.text_reader.proofs.DigitLemmas.{read_more}
+use Rattle.text_reader.proofs.ValueLemmas.{digit_fits}
 use Rattle.sequence_file.specs.Places.{IsFittingPrefix, fits_at}
-use Rattle.hex_digits.specs.Values.{is_digit}
+use Rattle.text_reader.specs.HexValues.{is_digit}
 use Rattle.sequence_file.specs.Sequence.{HasSequencePrefix, IsFaultAt, SpellsIn, SpellsSequence}
 use Rattle.spool_model.specs.Numbers.{number_digits}
 

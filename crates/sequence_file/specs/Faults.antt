@@ -20,7 +20,7 @@ fault_of_sequence Failed = store.FileFault
 fault_of_sequence Memory = store.Memory
 fault_of_sequence (Damaged damage) = store.Damaged damage
 
--- the sequence file is there, and this is where it breaks its form
+-- the sequence file exists, and this is where it breaks its form
 pub record IsSequenceDamage (content : Option (List ℕ)) (damage : Damage) : Type 0 where
   pub bytes : List ℕ
   pub held : content ≡ Some bytes

@@ -2,7 +2,7 @@
 -- computes.
 use Rattle.std.specs.Prelude.{◌+◌, ◌==◌, ◌&&◌, [], ◌∷◌, ℕ, Bool, true, false, List, Option, Some, None, Result, Ok, Err, length, max, take, slice_index, if◌then◌else◌}
 use Rattle.std.specs.Option.{option_or}
-use Rattle.hex_digits.specs.Values.{number_in}
+use Rattle.text_reader.specs.HexValues.{number_in}
 use Rattle.host_calls.specs.declared.damage.Damage.{Damage}
 use Rattle.host_calls.specs.Damages.{damage_at}
 use Rattle.spool_model.specs.Numbers.{number_digits}
@@ -20,12 +20,12 @@ sequence_as new_form bytes =
 abbrev pub sequence_in : List ℕ → Option ℕ
 sequence_in bytes = option_or (sequence_as true bytes) (sequence_as false bytes)
 
--- how many of the bytes may stand in their places of the form, from this place on
+-- how many of the bytes may be in their places of the form, from this place on
 abbrev pub fitting : Bool → ℕ → List ℕ → ℕ
 fitting new_form place [] = 0
 fitting new_form place (byte ∷ rest) = if fits_at new_form place byte then 1 + fitting new_form (place + 1) rest else 0
 
--- how many of the bytes may stand in their places of one form
+-- how many of the bytes may be in their places of one form
 abbrev pub longest_fitting : List ℕ → ℕ
 longest_fitting bytes = max (fitting true 0 bytes) (fitting false 0 bytes)
 

@@ -1,4 +1,4 @@
-pub mod Drawing
+pub mod Draw
 pub mod Faults
 pub mod LastNumber
 pub mod Laws

@@ -1,6 +1,6 @@
 -- The sequence file (own): the hexadecimal digits of a number, eight or five, and a newline.
 use Rattle.std.specs.Prelude.{◌≡◌, ◌≤◌, ◌+◌, ℕ, Bool, List, Option, Some, None, codes, length, take, slice_get, slice_index}
-use Rattle.hex_digits.specs.Digits.{SpellsNumber}
+use Rattle.text_reader.specs.HexDigits.{SpellsNumber}
 use Rattle.spool_model.specs.Numbers.{number_digits}
 
 -- the name of the sequence file

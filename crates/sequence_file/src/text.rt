@@ -4,16 +4,16 @@ ghost use Rattle.sequence_file.specs.Sequence.{SpellsIn, SpellsSequence, IsFault
 ghost use Rattle.sequence_file.specs.Places.{IsFittingPrefix, fits_at};
 
 use crate::names::sequence_name;
-use hex_digits::is_digit;
 use host_calls::Damage;
 use spool_model::number_digits;
+use text_reader::is_digit;
 
 /// The file of a number, in the new form.
 pub fn sequence_file_text(number: u32) -> [u8; 9]
     ensures { SpellsIn true result number }
 {
     let mut text = *b"00000000\n";
-    hex_digits::write_hex(&mut text[..number_digits(true)], number as u64);
+    text_reader::write_hex(&mut text[..number_digits(true)], number as u64);
     text
 }
 
@@ -38,7 +38,7 @@ fn number_in_file(bytes: &[u8], new_form: bool) -> Option<u32>
     if bytes.len() != 1 + digits || bytes[digits] != b'\n' {
         return None;
     }
-    let number = hex_digits::read_hex(&bytes[..digits])?;
+    let number = text_reader::read_hex(&bytes[..digits])?;
     Some(number as u32)
 }
 
@@ -51,7 +51,7 @@ fn damage_of(bytes: &[u8]) -> Damage
     Damage::at(sequence_name(), bytes, offset)
 }
 
-// How many of the first bytes may stand in their places of this form.
+// How many of the first bytes may be in their places of this form.
 fn fitting(bytes: &[u8], new_form: bool) -> usize
     ensures { IsFittingPrefix new_form bytes.now result }
 {

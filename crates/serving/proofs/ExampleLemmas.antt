@@ -2,37 +2,37 @@
 use Rattle.std.proofs.Common.{◌≡◌, ◌<◌, ℕ, zero, suc, ℤ, Bool, true, false, List, [], ◌∷◌, ◌++◌, refl, sym, ap, subst, inl, arith, lit≤, lit<}
 use Rattle.std.specs.Fmt.{digits}
 use Rattle.std.specs.Prelude.{Contains, Option, Some, None, codes, slice_index_or}
-use Rattle.clock_range.specs.ClockRange.{IsClockSecond}
-use Rattle.clock_range.proofs.RangeLemmas.{second_is}
+use Rattle.host_calls.specs.ClockRange.{IsClockSecond}
+use Rattle.host_calls.proofs.ClockRangeLemmas.{second_is}
 use Rattle.host_calls.specs.declared.child.Child.{Child}
 use Rattle.host_calls.specs.declared.child.Ending.TheVariants.{Exit}
 use Rattle.host_calls.specs.Clock.{Readers, with_load, with_now, with_rest}
 use Rattle.host_calls.specs.World.{World}
-use Rattle.cause_output.specs.Outside.{ClockAt}
-use Rattle.cause_output.specs.Sinks.{IsSilent}
+use Rattle.tool_output.specs.Outside.{ClockAt}
+use Rattle.tool_output.specs.Sinks.{IsSilent}
 use Rattle.listing_text.specs.declared.cause.Cause.{Cause}
 use Rattle.listing_text.specs.declared.cause.Cause.TheVariants as cause
 use Rattle.daemon_turn.specs.declared.kid.Kid.{Kid}
-use Rattle.host_session.specs.declared.turn_end.TurnEnd.{TurnEnd}
-use Rattle.host_session.specs.declared.turn_end.TurnEnd.TheVariants.{Done, Busy, FileFault}
+use Rattle.host_calls.specs.declared.turn_end.TurnEnd.{TurnEnd}
+use Rattle.host_calls.specs.declared.turn_end.TurnEnd.TheVariants.{Done, Busy, FileFault}
 use Rattle.daemon_turn.specs.declared.turn_input.TurnInput.{TurnInput}
 use Rattle.spool_model.specs.declared.turn_step.TurnStep.{TurnStep}
 use Rattle.spool_model.specs.declared.turn_step.TurnStep.TheVariants.{Ended, HandedOver}
 use Rattle.daemon_turn.specs.Kids.{AreKidsByNumber, AreChildren}
-use Rattle.daemon_turn.specs.Leaving.{DaemonAt, TurnsTo}
+use Rattle.daemon_turn.specs.TurnOutcome.{DaemonAt, TurnsTo}
 use Rattle.serving.specs.Examples.{ServesTwice, SmallServings, daemon_with, first_child, first_kid, host_with, midnight, minute_later, second_later, served_with, sink, known}
 use Rattle.serving.specs.Items.{TurnItem, ends_after, next_rest}
-use Rattle.cause_output.specs.Ends.{SaysEnd}
+use Rattle.tool_output.specs.Ends.{SaysEnd}
 use Rattle.serving.specs.Lines.{SaysEnds, daemon_name, turn_lines}
 use Rattle.serving.specs.Outcomes.{at_the_end, serve_outcome}
 use Rattle.serving.specs.Serves.{AnswersTurn, RestsAfter, ServeState, Served, Serves, next_turn, no_turn}
 use Rattle.serving.specs.Serving.{SaysServeOutcome}
 
--- a moment of a host that doesn't tell its files, with its daemon
+-- a moment of a host that doesn't exposes its files, with its daemon
 abbrev standing : World → List Child → ℕ → List Kid → DaemonAt
 standing world children taken kids = record { session = host_with children taken; world = world; daemon = daemon_with kids }
 
--- The kids.
+-- The children.
 
 no_kids : (children : List Child) → AreChildren children []
 no_kids children = record { each = λ kid has. absurd (omega (arith, has.1)) }
@@ -113,14 +113,14 @@ answered now load end steps old new answers readers = record {
 
 -- The sinks.
 
-silent : (content : List ℕ) → IsSilent (sink content) (sink content)
-silent content = record { content = refl; later = lit≤ tt }
+unchecked : (content : List ℕ) → IsSilent (sink content) (sink content)
+unchecked content = record { content = refl; later = lit≤ tt }
 
 done_silent : (one other : TurnItem) → one.end ≡ Done → other.end ≡ Done → SaysEnds (one ∷ other ∷ []) (sink []) (sink [])
 done_silent one other first second = (
   sink [],
-  subst (λ (end : TurnEnd). SaysEnd daemon_name end (sink []) (sink [])) (sym first) (silent []),
-  (sink [], subst (λ (end : TurnEnd). SaysEnd daemon_name end (sink []) (sink [])) (sym second) (silent []), silent []),
+  subst (λ (end : TurnEnd). SaysEnd daemon_name end (sink []) (sink [])) (sym first) (unchecked []),
+  (sink [], subst (λ (end : TurnEnd). SaysEnd daemon_name end (sink []) (sink [])) (sym second) (unchecked []), unchecked []),
 )
 
 -- What two turns come to.
@@ -147,7 +147,7 @@ module _ (world : World) (once : Bool) (one other : TurnItem) (end : ServeState)
 abbrev opening : World → ServeState
 opening world = served_with world [] 0 [] [] [] 0 0
 
--- a job handed over, and after that turn
+-- a job started, and after that turn
 abbrev handed_at : ℤ → TurnItem
 handed_at now = record { now = now; load = Some 42; end = Done; steps = HandedOver 1 now ∷ [] }
 
@@ -245,7 +245,7 @@ taken_first world =
     (two_turns false taken (handed_at second_later) (opening world) (refused world 0) (refused world 1) end first refl
     (rests false taken 1 (refused world 0) (refused world 1) refl refl refl refl) second)
     (codes "job 1 handed over\n") (codes "atd: spool busy\n") (codes "atd: spool busy\n") cause.Done refl
-    (sink (codes "atd: spool busy\n"), inl (record { content = refl; later = lit≤ tt }), (sink (codes "atd: spool busy\n"), silent (codes "atd: spool busy\n"), silent (codes "atd: spool busy\n")))
+    (sink (codes "atd: spool busy\n"), inl (record { content = refl; later = lit≤ tt }), (sink (codes "atd: spool busy\n"), unchecked (codes "atd: spool busy\n"), unchecked (codes "atd: spool busy\n")))
     (inl (refl, λ tells. refl))
 
 pub small_servings : SmallServings

@@ -4,26 +4,26 @@ use Rattle.host_calls.specs.Causes.{Rose}
 use Rattle.host_calls.specs.Session.{KeepsCounts, Session}
 use Rattle.host_calls.specs.World.{reading}
 use Rattle.listing_text.specs.declared.cause.Cause.{Cause}
-use Rattle.cause_output.specs.Sinks.{SinkAt}
+use Rattle.tool_output.specs.Sinks.{SinkAt}
 use Rattle.daemon_turn.specs.declared.kid.Kid.{Kid}
-use Rattle.host_session.specs.declared.turn_end.TurnEnd.{TurnEnd}
-use Rattle.host_session.specs.declared.turn_end.TurnEnd.TheVariants.{Done, Memory}
+use Rattle.host_calls.specs.declared.turn_end.TurnEnd.{TurnEnd}
+use Rattle.host_calls.specs.declared.turn_end.TurnEnd.TheVariants.{Done, Memory}
 use Rattle.daemon_turn.specs.Laws.{IsDoneOrMemory}
 use Rattle.step_runs.specs.Good.{IsGood}
-use Rattle.daemon_turn.specs.Leaving.{DaemonAt}
+use Rattle.daemon_turn.specs.TurnOutcome.{DaemonAt}
 use Rattle.daemon_turn.proofs.LawLemmas.{readings_stay_good, turns_are_done}
 use Rattle.serving.specs.Items.{TurnItem, first_end, last_item}
 use Rattle.serving.specs.Laws.{IsLastInRange, IsServedWell, ServingIsDone}
 use Rattle.serving.specs.Outcomes.{Stop, StopsBy, at_a_line, at_the_clock, at_the_end, damage_outcome, end_outcome, kids_outcome, last_turn_outcome, serve_outcome, turns_outcome}
 use Rattle.serving.specs.Serves.{ServeState, Served, Serves, next_turn, no_turn}
-use Rattle.cause_output.specs.Outside.{Telling}
+use Rattle.tool_output.specs.Outside.{Telling}
 use Rattle.serving.specs.Serving.{SaysServeOutcome}
 use Rattle.serving.specs.declared.outcome.ServeOutcome.{ServeOutcome}
 use Rattle.serving.specs.declared.outcome.ServeOutcome.TheVariants.{OfTurn, Own}
 use Rattle.serving.proofs.OutcomeLemmas.{stops_spool}
 use Rattle.serving.proofs.ServeLemmas.{serves_counts}
 
--- each of the turns was done, or found no memory
+-- each of the turns was done, or ran out of memory
 abbrev pub AreWell : List TurnItem → Type 0
 AreWell [] = Unit {0}
 AreWell (item ∷ items) = IsDoneOrMemory item.end × AreWell items
@@ -74,7 +74,7 @@ module _ (tells : Telling) (once : Bool) (first : ServeState) (known : tells.fil
       (subst (λ (spool : DaemonAt). IsSound spool.session after.spool.session) (sym same) here) in
       record { well = well_more before item earlier.well now.well.0; good = now.good }
 
--- What it comes to then.
+-- Its result then.
 
 abbrev pub IsWellFor : ServeOutcome → Type 0
 IsWellFor (OfTurn of) = IsServedWell of

@@ -1,23 +1,23 @@
--- Why serving comes to what it comes to.
+-- Why serving comes to its result.
 use Rattle.std.proofs.Common.{◌≡◌, ℕ, Bool, true, false, List, [], ◌∷◌, refl, sym, ap, subst, ◌∙◌, inl, inr}
 use Rattle.std.specs.Prelude.{Option, Some, None}
 use Rattle.host_calls.specs.Causes.{Rose}
 use Rattle.host_calls.specs.Session.{Session}
 use Rattle.listing_text.specs.declared.cause.Cause.{Cause}
 use Rattle.listing_text.specs.declared.cause.Cause.TheVariants as cause
-use Rattle.cause_output.specs.Sinks.{SinkAt}
-use Rattle.daemon_turn.specs.Leaving.{DaemonAt}
+use Rattle.tool_output.specs.Sinks.{SinkAt}
+use Rattle.daemon_turn.specs.TurnOutcome.{DaemonAt}
 use Rattle.daemon_turn.specs.declared.kid.Kid.{Kid}
-use Rattle.host_session.specs.declared.turn_end.TurnEnd.{TurnEnd}
-use Rattle.host_session.specs.declared.turn_end.TurnEnd.TheVariants.{Done, Busy, FileFault, Damaged, Memory}
+use Rattle.host_calls.specs.declared.turn_end.TurnEnd.{TurnEnd}
+use Rattle.host_calls.specs.declared.turn_end.TurnEnd.TheVariants.{Done, Busy, FileFault, Damaged, Memory}
 use Rattle.serving.specs.Items.{TurnItem, ends_after, first_end, is_last_turn, last_item}
 use Rattle.serving.specs.Outcomes.{Stop, StopsBy, at_a_line, at_the_clock, at_the_end, damage_outcome, end_outcome, kids_outcome, last_turn_outcome, serve_outcome, output_outcome, turns_outcome}
 use Rattle.serving.specs.Serves.{ServeState}
-use Rattle.cause_output.specs.Outside.{Telling}
+use Rattle.tool_output.specs.Outside.{Telling}
 use Rattle.serving.specs.Serving.{SaysServeOutcome}
 use Rattle.serving.specs.declared.outcome.ServeOutcome.{ServeOutcome}
 use Rattle.serving.specs.declared.outcome.ServeOutcome.TheVariants.{OfTurn, Own}
-use Rattle.serving.specs.inside.Progressing.{HasEnded}
+use Rattle.serving.specs.inside.NextTurn.{HasEnded}
 use Rattle.serving.proofs.ServeLemmas.{RoseFirst, rose_first}
 
 -- what the outside has to have done where serving comes to a cause

@@ -1,29 +1,29 @@
--- One turn more, and the end of serving.
+-- One more turn, and the end of serving.
 use Rattle.std.proofs.Common.{◌≡◌, ◌+◌, ◌<◌, ◌≤◌, ℕ, ℤ, Bool, true, false, List, [], ◌∷◌, ◌++◌, length, refl, sym, ap, subst, ◌∙◌, inl, inr, arith}
 use Rattle.std.specs.Prelude.{Option, Some, None, if◌then◌else◌}
-use Rattle.clock_range.specs.ClockRange.{IsClockSecond}
+use Rattle.host_calls.specs.ClockRange.{IsClockSecond}
 use Rattle.host_calls.specs.Causes.{Rose}
 use Rattle.host_calls.specs.Clock.{Answers, Readers, with_load, with_now}
 use Rattle.listing_text.specs.declared.cause.Cause.{Cause}
 use Rattle.listing_text.specs.declared.cause.Cause.TheVariants as cause
 use Rattle.listing_text.specs.declared.refusal.Refusal.TheVariants.{BadClock}
-use Rattle.cause_output.specs.Sinks.{IsSilent, SinkAt}
-use Rattle.daemon_turn.specs.Leaving.{DaemonAt, TurnsTo}
+use Rattle.tool_output.specs.Sinks.{IsSilent, SinkAt}
+use Rattle.daemon_turn.specs.TurnOutcome.{DaemonAt, TurnsTo}
 use Rattle.daemon_turn.specs.declared.mode.Mode.{Mode}
-use Rattle.host_session.specs.declared.turn_end.TurnEnd.{TurnEnd}
+use Rattle.host_calls.specs.declared.turn_end.TurnEnd.{TurnEnd}
 use Rattle.serving.specs.Items.{TurnItem, ends_after, first_end, is_last_turn, last_item, mode_after, next_rest}
-use Rattle.cause_output.specs.Ends.{SaysEnd}
-use Rattle.cause_output.proofs.EndLemmas.{silent_same}
-use Rattle.cause_output.proofs.PutLemmas.{nothing_put}
+use Rattle.tool_output.specs.Ends.{SaysEnd}
+use Rattle.tool_output.proofs.EndLemmas.{silent_same}
+use Rattle.tool_output.proofs.PutLemmas.{nothing_put}
 use Rattle.serving.specs.Lines.{SaysEnds, daemon_name, step_lines, turn_lines}
 use Rattle.serving.specs.Outcomes.{at_a_line, at_the_clock, at_the_end, damage_outcome, last_turn_outcome, turns_outcome}
 use Rattle.serving.specs.Serves.{AnswersTurn, RestsAfter, ServeState, Served, Serves, ServeStopsAtClock, next_turn, no_turn}
-use Rattle.cause_output.specs.Outside.{Telling}
+use Rattle.tool_output.specs.Outside.{Telling}
 use Rattle.serving.specs.Serving.{TurnsPrint, SaysServeOutcome, Serving}
 use Rattle.serving.specs.declared.outcome.ServeOutcome.{ServeOutcome}
 use Rattle.serving.specs.declared.outcome.ServeOutcome.TheVariants.{Own}
 use Rattle.serving.specs.declared.progress.Progress.{Progress}
-use Rattle.serving.specs.inside.Progressing.{HasEnded, HasServed, IsRest, PrintsMore, Proceeds, first_end_or, mode_by, outcome_if}
+use Rattle.serving.specs.inside.NextTurn.{HasEnded, HasServed, IsRest, PrintsMore, Proceeds, first_end_or, mode_by, outcome_if}
 use Rattle.serving.proofs.OutcomeLemmas.{no_damage}
 use Rattle.serving.proofs.ServeLemmas.{but_last_more, first_more, last_more, lines_more, mode_same, one_longer}
 use Rattle.serving.proofs.SinkLemmas.{ends_more, ends_silent}
@@ -67,10 +67,10 @@ module _ (tells : Telling) (once : Bool) (items : List TurnItem) (made : Progres
     few_more : (turns : ℕ) → length items < turns → length (items ++ item ∷ []) ≤ turns
     few_more turns few = (let longer : length (items ++ item ∷ []) ≡ length items + 1 = one_longer items item in omega arith)
 
-    -- a line found no memory
+    -- a line ran out of memory
     pub ended_at_line : (output_failed : Bool) (turns : ℕ) → length items < turns → PrintsMore tells.output (step_lines item.steps) made.output_failed output_failed out_now out_new false
         → (tells.errors ≡ true → IsSilent err_now err_new) → HasEnded tells once turns first after out_first out_new err_first err_new (Own cause.Memory)
-    ended_at_line output_failed turns few prints silent = record {
+    ended_at_line output_failed turns few prints unchecked = record {
       items = items ++ item ∷ [];
       last = after;
       stop = at_a_line;
@@ -80,7 +80,7 @@ module _ (tells : Telling) (once : Bool) (items : List TurnItem) (made : Progres
       stops = refl;
       prints = subst (λ (text : List ℕ). TurnsPrint tells.output at_a_line output_failed text out_first out_new) (sym (lines_more items item)) (prints (turn_lines items) out_first has.prints);
       says = λ known. subst (λ (of : List TurnItem). SaysEnds of err_first err_new) (sym (but_last_more items item))
-          (ends_silent items err_first err_now err_new (has.says known) (silent known));
+          (ends_silent items err_first err_now err_new (has.says known) (unchecked known));
       comes = refl;
     }
 

@@ -8,15 +8,15 @@ use Rattle.host_calls.specs.World.{World}
 use Rattle.daemon_turn.specs.Daemons.{DaemonState}
 use Rattle.daemon_turn.specs.Kids.{KeepsChildren}
 use Rattle.host_calls.specs.declared.child.Child.{Child}
-use Rattle.daemon_turn.specs.Leaving.{DaemonAt}
-use Rattle.host_session.specs.declared.turn_end.TurnEnd.{TurnEnd}
-use Rattle.host_session.specs.declared.turn_end.TurnEnd.TheVariants.{Done, Busy, FileFault, Damaged, Memory}
-use Rattle.host_session.proofs.SessionLemmas.{counts_on, no_counts}
+use Rattle.daemon_turn.specs.TurnOutcome.{DaemonAt}
+use Rattle.host_calls.specs.declared.turn_end.TurnEnd.{TurnEnd}
+use Rattle.host_calls.specs.declared.turn_end.TurnEnd.TheVariants.{Done, Busy, FileFault, Damaged, Memory}
+use Rattle.host_calls.proofs.SessionLemmas.{counts_on, no_counts}
 use Rattle.serving.specs.Items.{TurnItem, but_last, first_end, last_item, mode_after}
 use Rattle.serving.specs.Lines.{step_lines, turn_lines}
 use Rattle.serving.specs.Serves.{RestsAfter, ServeState, Served, Serves, no_turn, next_turn, rest_of, serve_at}
-use Rattle.cause_output.specs.Outside.{RestsOn, Telling}
-use Rattle.serving.specs.inside.Progressing.{IsRest, first_end_or, mode_by, rest_if}
+use Rattle.tool_output.specs.Outside.{RestsOn, Telling}
+use Rattle.serving.specs.inside.NextTurn.{IsRest, first_end_or, mode_by, rest_if}
 
 -- The list of turns with one more.
 

@@ -3,18 +3,18 @@ use Rattle.std.proofs.Common.{◌≡◌, ◌≤◌, ℕ, Bool, true, false, List
 use Rattle.std.specs.Prelude.{Err}
 use Rattle.host_calls.specs.Causes.{Rose}
 use Rattle.host_calls.specs.declared.fault.SinkFault.TheVariants.{Failed, Memory as NoMemory}
-use Rattle.cause_output.specs.Sinks.{IsPutInPart, IsPutOrCut, IsSilent, SinkAt}
-use Rattle.cause_output.specs.Ends.{SaysEnd}
-use Rattle.cause_output.specs.Putting.{PutsLines}
-use Rattle.cause_output.proofs.EndLemmas.{silent_same}
-use Rattle.cause_output.proofs.PutLemmas.{cut_after, cut_longer, part_after, part_of_cut, part_of_put}
-use Rattle.host_session.specs.declared.turn_end.TurnEnd.{TurnEnd}
-use Rattle.host_session.specs.declared.turn_end.TurnEnd.TheVariants.{Done, Busy, FileFault, Damaged, Memory}
+use Rattle.tool_output.specs.Sinks.{IsPutInPart, IsPutOrCut, IsSilent, SinkAt}
+use Rattle.tool_output.specs.Ends.{SaysEnd}
+use Rattle.tool_output.specs.PutLines.{PutsLines}
+use Rattle.tool_output.proofs.EndLemmas.{silent_same}
+use Rattle.tool_output.proofs.PutLemmas.{cut_after, cut_longer, part_after, part_of_cut, part_of_put}
+use Rattle.host_calls.specs.declared.turn_end.TurnEnd.{TurnEnd}
+use Rattle.host_calls.specs.declared.turn_end.TurnEnd.TheVariants.{Done, Busy, FileFault, Damaged, Memory}
 use Rattle.serving.specs.Items.{TurnItem}
 use Rattle.serving.specs.Lines.{SaysEnds, daemon_name}
 use Rattle.serving.specs.Outcomes.{at_a_line, at_the_end}
 use Rattle.serving.specs.Serving.{TurnsPrint, PutsUnless}
-use Rattle.serving.specs.inside.Progressing.{PrintsMore}
+use Rattle.serving.specs.inside.NextTurn.{PrintsMore}
 
 pub part_of : (output_failed : Bool) (text : List ℕ) (old new : SinkAt) → PutsUnless output_failed text old new → IsPutInPart text old new
 part_of false text old new put = part_of_put text old new put
@@ -48,7 +48,7 @@ more_part tells text output_failed now old new is same puts before start prints 
       puts = λ known. part_after before text start old new (subst (λ (flag : Bool). PutsUnless flag before start old) is (prints.puts known)) (puts.puts known);
     })
 
--- where a later line found no memory, a prefix of it was printed all the same
+-- where a later line ran out of memory, a prefix of it was printed all the same
 pub more_for : (tells : Bool) (text : List ℕ) (output_failed now found : Bool) (old new : SinkAt) → PrintsMore tells text output_failed now old new true → PrintsMore tells text output_failed now old new found
 more_for tells text output_failed now true old new more before start prints = more before start prints
 more_for tells text output_failed now false old new more before start prints =
@@ -62,12 +62,12 @@ silent_then old mid new first second = record { content = second.content ∙ fir
 
 -- nothing more was said after the ends
 pub ends_silent : (items : List TurnItem) (old mid new : SinkAt) → SaysEnds items old mid → IsSilent mid new → SaysEnds items old new
-ends_silent [] old mid new says silent = silent_then old mid new says silent
-ends_silent (item ∷ items) old mid new (between, first, others) silent = (between, first, ends_silent items between mid new others silent)
+ends_silent [] old mid new says unchecked = silent_then old mid new says unchecked
+ends_silent (item ∷ items) old mid new (between, first, others) unchecked = (between, first, ends_silent items between mid new others unchecked)
 
 -- one end more
 end_first : (item : TurnItem) (old mid new : SinkAt) → IsSilent old mid → SaysEnd daemon_name item.end mid new → SaysEnds (item ∷ []) old new
-end_first item old mid new silent end = (new, silent_end item.end old mid new silent end, silent_same new new refl) where
+end_first item old mid new unchecked end = (new, silent_end item.end old mid new unchecked end, silent_same new new refl) where
   put_later : (text : List ℕ) (was is to : SinkAt) → IsSilent was is → IsPutOrCut text is to → IsPutOrCut text was to
   put_later text was is to quiet (inl put) = inl (record { content = put.content ∙ ap (λ (before : List ℕ). before ++ text) quiet.content; later = omega (arith, quiet.later, put.later) })
   put_later text was is to quiet (inr output_failed) = inr (record {

@@ -1,15 +1,15 @@
--- Small servings, written down: two turns each and the rest between them (own). The host doesn't tell its files.
+-- Small servings, written down: two turns each and the rest between them (own). The host doesn't exposes its files.
 use Rattle.std.specs.Prelude.{[], ◌∷◌, ℕ, ℤ, pos, Bool, true, false, List, Option, Some, None, codes}
 use Rattle.host_calls.specs.declared.child.Child.{Child}
 use Rattle.host_calls.specs.Session.{Session}
 use Rattle.host_calls.specs.World.{World}
 use Rattle.listing_text.specs.declared.cause.Cause.{Cause}
 use Rattle.listing_text.specs.declared.cause.Cause.TheVariants as cause
-use Rattle.cause_output.specs.Sinks.{SinkAt}
+use Rattle.tool_output.specs.Sinks.{SinkAt}
 use Rattle.daemon_turn.specs.declared.kid.Kid.{Kid}
 use Rattle.daemon_turn.specs.Daemons.{DaemonState}
 use Rattle.serving.specs.Serves.{ServeState, serve_at}
-use Rattle.cause_output.specs.Outside.{Telling, telling}
+use Rattle.tool_output.specs.Outside.{Telling, telling}
 use Rattle.serving.specs.Serving.{Serving}
 
 -- all but the files is told
@@ -28,7 +28,7 @@ abbrev pub host_with : List Child → ℕ → Session
 host_with children taken =
     record { inside = false; children = children; made_as = []; file_faults = 0; start_faults = 0; taken = taken }
 
--- a daemon with these kids
+-- a daemon with these children
 abbrev pub daemon_with : List Kid → DaemonState
 daemon_with kids = record { kids = kids; limit = 150; interval = 60 }
 
@@ -52,13 +52,14 @@ second_later = pos 1735689601
 abbrev pub minute_later : ℤ
 minute_later = pos 1735689660
 
--- serving began with a daemon without kids, and ended so: what is served with then, what was printed and said, and the cause
+-- serving began with a daemon without children, and ended so: what is served with then, what was printed and said, and the
+-- cause
 abbrev pub ServesTwice : World → Bool → ServeState → List ℕ → List ℕ → Cause → Type 0
 ServesTwice world once end printed said of =
     Serving known once 2 (served_with world [] 0 [] [] [] 0 0) end (sink []) (sink printed) (sink []) (sink said) of
 
--- Two turns each: at a full minute a job is handed over whose child exits with 3, which is told at the next full minute;
--- only until no kid is left, its child exits with 0 within a second; its child runs on; the spool is taken at first.
+-- Two turns each: at a full minute a job is started whose child exits with 3, which is told at the next full minute;
+-- only until no child is left, its child exits with 0 within a second; its child runs on; the spool is taken at first.
 pub record SmallServings : Type 0 where
   pub minutes : (world : World) → ServesTwice world false
       (served_with world (first_child ∷ []) 0 [] (midnight ∷ minute_later ∷ []) (Some 42 ∷ None ∷ []) 60 1)

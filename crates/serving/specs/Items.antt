@@ -3,9 +3,9 @@ use Rattle.std.specs.Prelude.{◌-◌, ◌%◌, ◌&&◌, ◌||◌, [], ◌∷�
 use Rattle.daemon_turn.specs.declared.kid.Kid.{Kid}
 use Rattle.daemon_turn.specs.declared.mode.Mode.{Mode}
 use Rattle.daemon_turn.specs.declared.mode.Mode.TheVariants.{Full, EndsOnly}
-use Rattle.host_session.specs.declared.rest.TheConstants.{LONGEST_REST, SHORT_REST}
-use Rattle.host_session.specs.declared.turn_end.TurnEnd.{TurnEnd}
-use Rattle.host_session.specs.declared.turn_end.TurnEnd.TheVariants.{Done, Busy, FileFault, Damaged, Memory}
+use Rattle.host_calls.specs.declared.rest.TheConstants.{LONGEST_REST, SHORT_REST}
+use Rattle.host_calls.specs.declared.turn_end.TurnEnd.{TurnEnd}
+use Rattle.host_calls.specs.declared.turn_end.TurnEnd.TheVariants.{Done, Busy, FileFault, Damaged, Memory}
 use Rattle.spool_model.specs.declared.turn_step.TurnStep.{TurnStep}
 
 -- A turn of serving: the clock's answer, the load, if one was read, and what the turn reported.
@@ -32,7 +32,7 @@ but_last [] = []
 but_last (item ∷ []) = []
 but_last (item ∷ other ∷ items) = item ∷ but_last (other ∷ items)
 
--- The mode of the turn after these: where it is served only until no kid is left, the first turn alone starts jobs.
+-- The mode of the turn after these: where it is served only until no child is left, the first turn alone starts jobs.
 abbrev pub mode_after : Bool → List TurnItem → Mode
 mode_after false items = Full
 mode_after true [] = Full
@@ -46,7 +46,7 @@ rest_after_turn FileFault now = SHORT_REST
 rest_after_turn (Damaged damage) now = SHORT_REST
 rest_after_turn Memory now = SHORT_REST
 
--- and a short one where it is served only until no kid is left
+-- and a short one where it is served only until no child is left
 abbrev pub next_rest : Bool → TurnEnd → ℤ → ℕ
 next_rest true end now = SHORT_REST
 next_rest false end now = rest_after_turn end now
@@ -59,12 +59,12 @@ is_damaged Busy = false
 is_damaged FileFault = false
 is_damaged Memory = false
 
--- no kid is left
+-- no child is left
 abbrev pub is_alone : List Kid → Bool
 is_alone [] = true
 is_alone (kid ∷ kids) = false
 
--- No turn is made after one that found a damage, nor, where it is served only until no kid is left, after one that
+-- No turn is made after one that found a damage, nor, where it is served only until no child is left, after one that
 -- left none.
 abbrev pub is_last_turn : Bool → TurnEnd → List Kid → Bool
 is_last_turn once end kids = is_damaged end || (once && is_alone kids)

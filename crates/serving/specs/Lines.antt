@@ -1,9 +1,9 @@
 -- What serving prints and says, turn by turn (own).
 use Rattle.std.specs.Prelude.{◌++◌, [], ◌∷◌, ℕ, List, codes}
-use Rattle.cause_output.specs.Sinks.{IsSilent, SinkAt}
-use Rattle.cause_output.specs.Ends.{SaysEnd}
-use Rattle.cause_output.specs.Putting.{joined_lines}
-use Rattle.cause_output.specs.Steps.{step_line}
+use Rattle.tool_output.specs.Sinks.{IsSilent, SinkAt}
+use Rattle.tool_output.specs.Ends.{SaysEnd}
+use Rattle.tool_output.specs.PutLines.{joined_lines}
+use Rattle.tool_output.specs.Steps.{step_line}
 use Rattle.spool_model.specs.declared.turn_step.TurnStep.{TurnStep}
 use Rattle.serving.specs.Items.{TurnItem}
 

@@ -4,8 +4,8 @@ use Rattle.listing_text.specs.declared.cause.Cause.{Cause}
 use Rattle.listing_text.specs.declared.cause.Cause.TheVariants as cause
 use Rattle.listing_text.specs.declared.refusal.Refusal.TheVariants.{BadClock}
 use Rattle.daemon_turn.specs.declared.kid.Kid.{Kid}
-use Rattle.host_session.specs.declared.turn_end.TurnEnd.{TurnEnd}
-use Rattle.host_session.specs.declared.turn_end.TurnEnd.TheVariants.{Done, Busy, FileFault, Damaged, Memory}
+use Rattle.host_calls.specs.declared.turn_end.TurnEnd.{TurnEnd}
+use Rattle.host_calls.specs.declared.turn_end.TurnEnd.TheVariants.{Done, Busy, FileFault, Damaged, Memory}
 use Rattle.serving.specs.Items.{TurnItem, ends_after, first_end, last_item}
 use Rattle.serving.specs.Serves.{ServeState, ServeStopsAtClock}
 use Rattle.serving.specs.declared.outcome.ServeOutcome.{ServeOutcome}
@@ -21,7 +21,7 @@ pub data Stop : Type 0 where
 abbrev pub output_outcome : Bool → ServeOutcome
 output_outcome output_failed = Own (if output_failed then cause.OutputFault else cause.Done)
 
--- kids that are left come before that
+-- children that are left come before that
 abbrev pub kids_outcome : List Kid → Bool → ServeOutcome
 kids_outcome [] output_failed = output_outcome output_failed
 kids_outcome (kid ∷ kids) output_failed = Own cause.StillRunning
@@ -34,12 +34,12 @@ end_outcome FileFault other = OfTurn cause.FileFault
 end_outcome (Damaged damage) other = OfTurn (cause.Damaged damage)
 end_outcome Memory other = OfTurn cause.Memory
 
--- the end of the first turn comes before kids that are left
+-- the end of the first turn comes before children that are left
 abbrev pub first_outcome : Option TurnEnd → List Kid → Bool → ServeOutcome
 first_outcome None kids output_failed = kids_outcome kids output_failed
 first_outcome (Some end) kids output_failed = end_outcome end (kids_outcome kids output_failed)
 
--- where all turns are made, by whether it is served only until no kid is left
+-- where all turns are made, by whether it is served only until no child is left
 abbrev pub turns_outcome : Bool → Option TurnEnd → List Kid → Bool → ServeOutcome
 turns_outcome true first kids output_failed = first_outcome first kids output_failed
 turns_outcome false first kids output_failed = output_outcome output_failed
@@ -56,7 +56,7 @@ abbrev pub last_turn_outcome : Option TurnItem → ServeOutcome → ServeOutcome
 last_turn_outcome None other = other
 last_turn_outcome (Some item) other = damage_outcome item.end other
 
--- What serving comes to: by its turns, the kids that are left, and whether a put on the output failed.
+-- What serving comes to: by its turns, the children that are left, and whether a put on the output failed.
 abbrev pub serve_outcome : Stop → Bool → List TurnItem → List Kid → Bool → ServeOutcome
 serve_outcome at_the_end once items kids output_failed =
     last_turn_outcome (last_item items) (turns_outcome once (first_end items) kids output_failed)

@@ -1,6 +1,6 @@
 -- What serving leaves of all that it is handed (own).
 use Rattle.std.specs.Prelude.{◌≡◌, ℕ, Bool}
-use Rattle.cause_output.specs.Outside.{HasRisen, OutsideAt, no_inputs, outside_at}
+use Rattle.tool_output.specs.Outside.{HasRisen, OutsideAt, no_inputs, outside_at}
 use Rattle.daemon_turn.specs.Daemons.{DaemonState}
 use Rattle.daemon_turn.specs.Kids.{KeepsChildren}
 use Rattle.host_calls.specs.Causes.{Rose}
@@ -27,8 +27,8 @@ serving_outside h r o e host readings out err = outside_at h r no_inputs o e hos
 abbrev pub served_at : OutsideAt → DaemonState → ServeState
 served_at at daemon = serve_at at.session at.holds.spool daemon at.holds.answers at.readers
 
--- How it is served, at most so many turns, and only until no kid is left where that is asked for: the daemon keeps this
--- before, and that after.
+-- How it is served, at most so many turns, and only until no child is left where that is requested: the daemon keeps
+-- this before, and that after.
 abbrev pub IsServed : Bool → ℕ → DaemonState → DaemonState → OutsideAt → OutsideAt → Cause → Type 0
 IsServed once turns kept keeps old new cause =
     Serving old.tells once turns (served_at old kept) (served_at new keeps) old.holds.output new.holds.output

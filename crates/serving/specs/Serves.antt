@@ -1,13 +1,13 @@
 -- Serving, turn by turn (own).
 use Rattle.std.specs.Prelude.{◌≡◌, ◌≤◌, ◌++◌, [], ◌∷◌, ℕ, ℤ, Bool, true, false, List, Option, Some, None}
-use Rattle.clock_range.specs.ClockRange.{IsClockSecond}
+use Rattle.host_calls.specs.ClockRange.{IsClockSecond}
 use Rattle.host_calls.specs.Causes.{Rose}
-use Rattle.cause_output.specs.Outside.{ClockAt, RestsOn, Telling}
+use Rattle.tool_output.specs.Outside.{ClockAt, RestsOn, Telling}
 use Rattle.host_calls.specs.Clock.{Answers, Readers, with_load, with_now}
 use Rattle.host_calls.specs.Session.{Session}
 use Rattle.host_calls.specs.World.{World}
 use Rattle.daemon_turn.specs.Daemons.{DaemonState}
-use Rattle.daemon_turn.specs.Leaving.{DaemonAt, TurnsTo}
+use Rattle.daemon_turn.specs.TurnOutcome.{DaemonAt, TurnsTo}
 use Rattle.serving.specs.Items.{TurnItem, ends_after, last_item, mode_after, next_rest}
 
 -- what is served with, at a moment: a host and what its daemon keeps, and the readings

@@ -2,13 +2,13 @@
 use Rattle.std.specs.Prelude.{◌≡◌, ◌≤◌, ℕ, Bool, true, false, List, length}
 use Rattle.host_calls.specs.Causes.{Rose}
 use Rattle.listing_text.specs.declared.cause.Cause.{Cause}
-use Rattle.cause_output.specs.Sinks.{IsCut, IsPut, IsPutInPart, SinkAt}
-use Rattle.cause_output.specs.Saying.{IsSaid}
+use Rattle.tool_output.specs.Sinks.{IsCut, IsPut, IsPutInPart, SinkAt}
+use Rattle.tool_output.specs.SaidLines.{IsSaid}
 use Rattle.serving.specs.Items.{TurnItem, but_last}
 use Rattle.serving.specs.Lines.{SaysEnds, daemon_name, turn_lines}
 use Rattle.serving.specs.Outcomes.{Stop, StopsBy, at_a_line, at_the_clock, at_the_end, serve_outcome}
 use Rattle.serving.specs.Serves.{ServeState, Serves}
-use Rattle.cause_output.specs.Outside.{Telling}
+use Rattle.tool_output.specs.Outside.{Telling}
 use Rattle.serving.specs.declared.outcome.ServeOutcome.{ServeOutcome}
 use Rattle.serving.specs.declared.outcome.ServeOutcome.TheVariants.{OfTurn, Own}
 
@@ -17,7 +17,7 @@ abbrev pub PutsUnless : Bool → List ℕ → SinkAt → SinkAt → Type 0
 PutsUnless false text old new = IsPut text old new
 PutsUnless true text old new = IsCut text old new
 
--- and a prefix of it where a line found no memory
+-- and a prefix of it where a line ran out of memory
 abbrev pub PutsTurnsBy : Stop → Bool → List ℕ → SinkAt → SinkAt → Type 0
 PutsTurnsBy at_the_end output_failed text old new = PutsUnless output_failed text old new
 PutsTurnsBy at_the_clock output_failed text old new = PutsUnless output_failed text old new
@@ -29,7 +29,7 @@ pub record TurnsPrint (tells : Bool) (stop : Stop) (output_failed : Bool) (text 
   pub rose : output_failed ≡ true → Rose old.faults new.faults
   pub puts : tells ≡ true → PutsTurnsBy stop output_failed text old new
 
--- the turns whose ends were said: not the last one, where a line of it found no memory
+-- the turns whose ends were said: not the last one, where a line of it ran out of memory
 abbrev pub said_of : Stop → List TurnItem → List TurnItem
 said_of at_the_end items = items
 said_of at_the_clock items = items
@@ -40,7 +40,7 @@ abbrev pub SaysServeOutcome : Bool → ServeOutcome → SinkAt → SinkAt → Ca
 SaysServeOutcome tells (OfTurn cause) old new final = (final ≡ cause) × (tells ≡ true → new ≡ old)
 SaysServeOutcome tells (Own cause) old new final = IsSaid daemon_name tells cause old new final
 
--- How serving ends: its turns, and no more than were asked for, lead from the state at its start to that at its end; their
+-- How serving ends: its turns, and no more than were requested, lead from the state at its start to that at its end; their
 -- lines are printed and their ends said, one after the other; and the cause is what it came to.
 pub record Serving (tells : Telling) (once : Bool) (turns : ℕ) (old new : ServeState)
     (out_old out_new err_old err_new : SinkAt) (cause : Cause) : Type 0 where

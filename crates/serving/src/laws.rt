@@ -2,7 +2,8 @@
 ghost use Rattle.serving.specs.Examples.{SmallServings};
 ghost use Rattle.serving.specs.Laws.{ServingIsDone};
 
-/// Where the outside doesn't fail, serving is done, or its turns are used up while kids are left, or it finds no memory.
+/// Where the outside doesn't fail, serving is done, or its turns are used up while children are left, or it runs out of
+/// memory.
 pub fn serving_ends_well()
     ensures { ServingIsDone }
 {}

@@ -1,26 +1,25 @@
 //! One turn of serving: the readings are asked, the turn is made, and what it did is printed and said.
 ghost use Rattle.std.specs.Prelude.{◌≡◌, List, false};
-ghost use Rattle.cause_output.specs.Sinks.{SinkAt, sink_at};
-ghost use Rattle.cause_output.specs.Ends.{SaysEndOr};
+ghost use Rattle.tool_output.specs.Sinks.{SinkAt, sink_at};
+ghost use Rattle.tool_output.specs.Ends.{SaysEndOr};
 ghost use Rattle.daemon_turn.specs.Kids.{AreChildren, KeepsChildren};
 ghost use Rattle.host_calls.specs.Session.{IsOutside, KeepsCounts};
 ghost use Rattle.serving.specs.Items.{TurnItem};
 ghost use Rattle.serving.specs.Lines.{daemon_name, step_lines};
 ghost use Rattle.serving.specs.Serves.{ServeState, serve_at};
-ghost use Rattle.cause_output.specs.Outside.{telling};
-ghost use Rattle.serving.specs.inside.Progressing.{HasServed, PrintsMore, Proceeds};
+ghost use Rattle.tool_output.specs.Outside.{telling};
+ghost use Rattle.serving.specs.inside.NextTurn.{HasServed, PrintsMore, Proceeds};
 
 use crate::ServeOutcome;
 use crate::outcome_line::DAEMON_NAME;
 use crate::progress::Progress;
-use cause_output::{put_lines, say_end};
-use clock_range::is_clock_second;
 use daemon_turn::{Daemon, TurnReport, TurnStep};
-use host_calls::{Host, Readings, Sink, SinkFault};
+use host_calls::{Host, Readings, Sink, SinkFault, is_clock_second};
 use listing_text::{Cause, Refusal};
 use std::alloc::Global;
+use tool_output::{put_lines, say_end};
 
-// Rests, and makes one turn more. Answers what serving comes to, where no further one is to be made.
+// Rests, and makes one more turn. Answers what serving comes to, where no further one is to be made.
 // The rest comes before a turn, since only then it is known that there is one more. Where the clock is out of range no
 // load is read, for no turn is made with it.
 pub(crate) fn next_turn<H: Host, R: Readings, O: Sink, E: Sink>(

@@ -1,14 +1,14 @@
 //! The last line of serving.
 ghost use Rattle.std.specs.Prelude.{◌≡◌};
-ghost use Rattle.cause_output.specs.Sinks.{sink_at};
+ghost use Rattle.tool_output.specs.Sinks.{sink_at};
 ghost use Rattle.serving.specs.Lines.{daemon_name};
 ghost use Rattle.serving.specs.Serving.{SaysServeOutcome};
 
 use crate::ServeOutcome;
-use cause_output::say_cause;
 use host_calls::Sink;
 use listing_text::Cause;
 use std::alloc::Global;
+use tool_output::say_cause;
 
 // The name of the daemon, as it begins its lines.
 pub(crate) const DAEMON_NAME: &str = "atd";

@@ -1,15 +1,14 @@
 //! How far serving has come.
 ghost use Rattle.std.specs.Prelude.{◌≡◌, false, None};
-ghost use Rattle.clock_range.specs.ClockRange.{IsClockSecond};
-ghost use Rattle.cause_output.specs.Outside.{RestsOn, clock_at};
+ghost use Rattle.host_calls.specs.ClockRange.{IsClockSecond};
+ghost use Rattle.tool_output.specs.Outside.{RestsOn, clock_at};
 ghost use Rattle.serving.specs.Items.{next_rest};
 ghost use Rattle.serving.specs.Outcomes.{end_outcome, kids_outcome, output_outcome, turns_outcome};
-ghost use Rattle.serving.specs.inside.Progressing.{first_end_or, mode_by, outcome_if, rest_if};
+ghost use Rattle.serving.specs.inside.NextTurn.{first_end_or, mode_by, outcome_if, rest_if};
 
 use crate::ServeOutcome;
 use daemon_turn::{Kid, Mode, TurnEnd};
-use host_calls::Readings;
-use host_session::{LONGEST_REST, SHORT_REST};
+use host_calls::{LONGEST_REST, Readings, SHORT_REST};
 use listing_text::Cause;
 
 // How far serving has come: how the first turn ended, the seconds of the rest before the next one, and whether a put on
@@ -55,7 +54,7 @@ impl Progress {
         }
     }
 
-    // One turn more was made.
+    // One more turn was made.
     pub(crate) fn add(&mut self, once: bool, now: i64, end: &TurnEnd)
         requires { IsClockSecond now }
         ensures first { self.new.first ≡ first_end_or self.old.first end.now }
@@ -138,7 +137,7 @@ fn output_outcome(output_failed: bool) -> ServeOutcome
     }
 }
 
-// Kids that are left come before that.
+// Children that are left come before that.
 fn kids_outcome(kids: &[Kid], output_failed: bool) -> ServeOutcome
     ensures { result ≡ kids_outcome kids.now output_failed }
 {

@@ -1,13 +1,13 @@
 //! The loop of turns.
 ghost use Rattle.std.specs.Prelude.{◌≡◌, ◌≤◌, false};
-ghost use Rattle.cause_output.specs.Sinks.{sink_at};
+ghost use Rattle.tool_output.specs.Sinks.{sink_at};
 ghost use Rattle.daemon_turn.specs.Kids.{AreChildren, KeepsChildren};
 ghost use Rattle.host_calls.specs.Session.{IsOutside, KeepsCounts};
 ghost use Rattle.listing_text.specs.Cause.{status_of};
 ghost use Rattle.serving.specs.Outside.{EndsOutside, HasRisenServing, IsServed, StaysMadeServing, serving_outside};
 ghost use Rattle.serving.specs.Serves.{serve_at};
-ghost use Rattle.cause_output.specs.Outside.{telling};
-ghost use Rattle.serving.specs.inside.Progressing.{HasEnded};
+ghost use Rattle.tool_output.specs.Outside.{telling};
+ghost use Rattle.serving.specs.inside.NextTurn.{HasEnded};
 
 use crate::ServeOutcome;
 use crate::next_turn::next_turn;
@@ -19,7 +19,7 @@ use listing_text::{Cause, Status};
 use std::alloc::Global;
 
 /// Makes turns, at most so many, with a rest between each two. Where `once` is set the first turn alone starts jobs, and
-/// the others come until no kid is left. What the turns did is printed on `out`, and why they ended said on `err`.
+/// the others come until no child is left. What the turns did is printed on `out`, and why they ended said on `err`.
 pub fn serve<H: Host, R: Readings, O: Sink, E: Sink>(
     alloc: Global,
     daemon: &mut Daemon,
@@ -57,7 +57,7 @@ pub fn serve<H: Host, R: Readings, O: Sink, E: Sink>(
     Status::of(say_serve_outcome(alloc, outcome, err))
 }
 
-// Makes turns until one ends it or all are made. Answers what it comes to.
+// Makes turns until one ends it or all are made. Answers its result.
 fn make_turns<H: Host, R: Readings, O: Sink, E: Sink>(
     alloc: Global,
     daemon: &mut Daemon,

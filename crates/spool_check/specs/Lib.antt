@@ -1,5 +1,7 @@
-pub mod Checking
+pub mod CheckOutcome
+pub mod FaultLines
+pub mod Faults
 pub mod Outside
-pub mod Telling
+pub mod SalvageOutcome
 pub mod Words
 pub mod inside

@@ -11,10 +11,10 @@ use Rattle.at_words.specs.declared.fault.WordsFault.{WordsFault}
 unfoldable pub check_app : App
 check_app = app_with (codes "atcheck") (long_flag_rule (codes "salvage") ∷ [])
 
--- whether a salvage is asked for
+-- whether a salvage is requested
 abbrev pub salvage_asked : List Row → Result Bool WordsFault
 salvage_asked rows = Ok (is_set (codes "salvage") rows)
 
--- what the words ask for, the first of which stands for the name
+-- what the words request, the first of which stands for the name
 abbrev pub check_asked : List Text → Result Bool WordsFault
 check_asked words = named_asked check_app salvage_asked words

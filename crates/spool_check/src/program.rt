@@ -1,28 +1,28 @@
 //! The checker as a program.
 ghost use Rattle.std.specs.Prelude.{◌≡◌, false, map, string_bytes};
-ghost use Rattle.cause_output.specs.Outside.{FolderAt, folder_at, stream_at};
-ghost use Rattle.cause_output.specs.Sinks.{sink_at};
+ghost use Rattle.tool_output.specs.Outside.{DirectoryAt, directory_at, stream_at};
+ghost use Rattle.tool_output.specs.Sinks.{sink_at};
 ghost use Rattle.host_calls.specs.Session.{IsLeft, IsOutside};
 ghost use Rattle.listing_text.specs.Cause.{status_of};
-ghost use Rattle.spool_check.specs.Checking.{ChecksAsRequested, CheckEnds, IsChecked};
-ghost use Rattle.spool_check.specs.inside.Looking.{ReportsFaults, cause_by};
-ghost use Rattle.spool_check.specs.Outside.{HasRisenInEither, handed, folders_at};
+ghost use Rattle.spool_check.specs.CheckOutcome.{ChecksAsRequested, CheckEnds, IsChecked};
+ghost use Rattle.spool_check.specs.inside.CheckParts.{ReportsFaults, cause_by};
+ghost use Rattle.spool_check.specs.Outside.{HasRisenInEither, handed, directories_at};
 ghost use Rattle.spool_check.specs.Words.{check_asked};
 
 use crate::look::look;
 use crate::save::check_and_save;
 use crate::tell::report_faults;
 use crate::words::asks_to_salvage;
-use cause_output::{CommandError, cause_of_words, say_cause};
 use host_calls::{Damage, Host, Sink};
 use listing_text::{Cause, Status};
 use std::alloc::Global;
+use tool_output::{CommandError, cause_of_words, say_cause};
 
 // The name under which the cause is said.
 const TOOL: &str = "atcheck";
 
-/// Tells every fault of the folder, a line each, and where the words ask for it writes what is saved of it into the new
-/// folder. The first of the words stands for the program's name, whatever it is.
+/// Tells every fault of the directory, a line each, and where the words request it writes what is saved of it into the
+/// new directory. The first of the words stands for the program's name, whatever it is.
 pub fn check_program<H: Host, G: Host, O: Sink, E: Sink>(
     alloc: Global,
     words: &[String],
@@ -38,18 +38,18 @@ pub fn check_program<H: Host, G: Host, O: Sink, E: Sink>(
     ensures to { IsLeft (G.session to.old) (G.session to.new) }
     ensures out_made { (O.outlet out.new).made_as ≡ (O.outlet out.old).made_as }
     ensures err_made { (E.outlet err.new).made_as ≡ (E.outlet err.old).made_as }
-    ensures risen { HasRisenInEither (folders_at H.Host G.Host O.Sink from.old to.old out.old)
-        (folders_at H.Host G.Host O.Sink from.new to.new out.new) result.cause }
+    ensures risen { HasRisenInEither (directories_at H.Host G.Host O.Sink from.old to.old out.old)
+        (directories_at H.Host G.Host O.Sink from.new to.new out.new) result.cause }
     ensures ends { CheckEnds (check_asked (map string_bytes words.now))
-        (folders_at H.Host G.Host O.Sink from.old to.old out.old)
-        (folders_at H.Host G.Host O.Sink from.new to.new out.new)
+        (directories_at H.Host G.Host O.Sink from.old to.old out.old)
+        (directories_at H.Host G.Host O.Sink from.new to.new out.new)
         (stream_at E.Sink err.old) (stream_at E.Sink err.new) result.cause }
 {
     let cause = check_by_words(alloc, words, from, to, out);
     Status::of(say_cause(alloc, TOOL, cause, err))
 }
 
-// Does what the words ask for. The line of the cause is still to be said.
+// Does what the words request. The line of the cause is still to be said.
 fn check_by_words<H: Host, G: Host, O: Sink>(
     alloc: Global,
     words: &[String],
@@ -62,11 +62,11 @@ fn check_by_words<H: Host, G: Host, O: Sink>(
     ensures from { IsLeft (H.session from.old) (H.session from.new) }
     ensures to { IsLeft (G.session to.old) (G.session to.new) }
     ensures made_as { (O.outlet out.new).made_as ≡ (O.outlet out.old).made_as }
-    ensures risen { HasRisenInEither (folders_at H.Host G.Host O.Sink from.old to.old out.old)
-        (folders_at H.Host G.Host O.Sink from.new to.new out.new) result }
+    ensures risen { HasRisenInEither (directories_at H.Host G.Host O.Sink from.old to.old out.old)
+        (directories_at H.Host G.Host O.Sink from.new to.new out.new) result }
     ensures does { ChecksAsRequested (check_asked (map string_bytes words.now))
-        (folders_at H.Host G.Host O.Sink from.old to.old out.old)
-        (folders_at H.Host G.Host O.Sink from.new to.new out.new) result }
+        (directories_at H.Host G.Host O.Sink from.old to.old out.old)
+        (directories_at H.Host G.Host O.Sink from.new to.new out.new) result }
 {
     match asks_to_salvage(alloc, words) {
         Ok(true) => cause_of_check(check_and_save(alloc, from, to, out)),
@@ -84,7 +84,7 @@ fn cause_of_check(ended: Result<Cause, CommandError>) -> Cause
     }
 }
 
-// Tells the faults of the folder. Its session is over before the lines are put: a slow reader holds no lock.
+// Tells the faults of the directory. Its session is over before the lines are put: a slow reader holds no lock.
 fn list_faults<H: Host, O: Sink>(
     alloc: Global,
     from: &mut H,
@@ -93,18 +93,18 @@ fn list_faults<H: Host, O: Sink>(
     requires { IsOutside (H.session from.old) }
     ensures left { IsLeft (H.session from.old) (H.session from.new) }
     ensures made_as { (O.outlet out.new).made_as ≡ (O.outlet out.old).made_as }
-    ensures risen { (to : FolderAt) → HasRisenInEither
-        (handed (folder_at H.Host from.old) to (stream_at O.Sink out.old))
-        (handed (folder_at H.Host from.new) to (stream_at O.Sink out.new)) (cause_by result) }
-    ensures checked { (to : FolderAt) → IsChecked false
-        (handed (folder_at H.Host from.old) to (stream_at O.Sink out.old))
-        (handed (folder_at H.Host from.new) to (stream_at O.Sink out.new)) (cause_by result) }
+    ensures risen { (to : DirectoryAt) → HasRisenInEither
+        (handed (directory_at H.Host from.old) to (stream_at O.Sink out.old))
+        (handed (directory_at H.Host from.new) to (stream_at O.Sink out.new)) (cause_by result) }
+    ensures checked { (to : DirectoryAt) → IsChecked false
+        (handed (directory_at H.Host from.old) to (stream_at O.Sink out.old))
+        (handed (directory_at H.Host from.new) to (stream_at O.Sink out.new)) (cause_by result) }
 {
     let found = look(alloc, from)?;
     tell_outside(alloc, from, found.faults.as_slice(), out)
 }
 
-// Tells them outside of a session of the folder.
+// Tells them outside of a session of the directory.
 fn tell_outside<H: Host, O: Sink>(
     alloc: Global,
     from: &H,

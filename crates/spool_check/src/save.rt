@@ -1,24 +1,24 @@
-//! Saving what can be saved of the folder that is checked.
+//! Saving what can be saved of the directory that is checked.
 ghost use Rattle.std.specs.Prelude.{◌≡◌, true, IfErr, IsTrue};
-ghost use Rattle.cause_output.specs.Outside.{folder_at, stream_at};
-ghost use Rattle.cause_output.specs.Causes.{cause_in, error_of};
+ghost use Rattle.tool_output.specs.Outside.{directory_at, stream_at};
+ghost use Rattle.tool_output.specs.Causes.{cause_in, error_of};
 ghost use Rattle.host_calls.specs.Session.{IsInside, IsLeft, IsOutside, StaysInside};
 ghost use Rattle.host_calls.specs.World.{reading};
-ghost use Rattle.spool_check.specs.Checking.{Checks, IsChecked, Writes};
-ghost use Rattle.spool_check.specs.inside.Looking.{IsSalvageCause, RisesOfBoth, cause_by, salvage_cause};
-ghost use Rattle.spool_check.specs.Outside.{HasRisenInEither, folders_at};
+ghost use Rattle.spool_check.specs.CheckOutcome.{Checks, IsChecked, Writes};
+ghost use Rattle.spool_check.specs.inside.CheckParts.{IsSalvageCause, RisesOfBoth, cause_by, salvage_cause};
+ghost use Rattle.spool_check.specs.Outside.{HasRisenInEither, directories_at};
 ghost use Rattle.spool_faults.specs.Plan.{IsPlanOf};
 
 use crate::tell::report_faults;
-use cause_output::CommandError;
+use crate::{SalvageFault, fill_target};
 use host_calls::{Host, Sink};
 use listing_text::{Cause, Refusal};
 use spool_faults::{SalvagePlan, diagnose};
-use spool_salvage::{SalvageFault, fill_target};
 use std::alloc::Global;
+use tool_output::CommandError;
 
-// Tells the faults of the folder, and then writes what is saved of it into the new one. The lines come first, so that
-// nothing is written where they could not be put.
+// Tells the faults of the directory, and then writes what is saved of it into the new one. The lines come first, so
+// that nothing is written where they could not be put.
 pub(crate) fn check_and_save<H: Host, G: Host, O: Sink>(
     alloc: Global,
     from: &mut H,
@@ -30,10 +30,10 @@ pub(crate) fn check_and_save<H: Host, G: Host, O: Sink>(
     ensures from { IsLeft (H.session from.old) (H.session from.new) }
     ensures to { IsLeft (G.session to.old) (G.session to.new) }
     ensures made_as { (O.outlet out.new).made_as ≡ (O.outlet out.old).made_as }
-    ensures risen { HasRisenInEither (folders_at H.Host G.Host O.Sink from.old to.old out.old)
-        (folders_at H.Host G.Host O.Sink from.new to.new out.new) (cause_by result) }
-    ensures checked { IsChecked true (folders_at H.Host G.Host O.Sink from.old to.old out.old)
-        (folders_at H.Host G.Host O.Sink from.new to.new out.new) (cause_by result) }
+    ensures risen { HasRisenInEither (directories_at H.Host G.Host O.Sink from.old to.old out.old)
+        (directories_at H.Host G.Host O.Sink from.new to.new out.new) (cause_by result) }
+    ensures checked { IsChecked true (directories_at H.Host G.Host O.Sink from.old to.old out.old)
+        (directories_at H.Host G.Host O.Sink from.new to.new out.new) (cause_by result) }
 {
     from.enter(alloc)?;
     let ended = tell_and_save(alloc, from, to, out);
@@ -41,7 +41,7 @@ pub(crate) fn check_and_save<H: Host, G: Host, O: Sink>(
     ended
 }
 
-// The same within a session of the folder that is checked.
+// The same within a session of the directory that is checked.
 fn tell_and_save<H: Host, G: Host, O: Sink>(
     alloc: Global,
     from: &mut H,
@@ -53,10 +53,10 @@ fn tell_and_save<H: Host, G: Host, O: Sink>(
     ensures from { StaysInside (H.session from.old) (H.session from.new) }
     ensures to { IsLeft (G.session to.old) (G.session to.new) }
     ensures made_as { (O.outlet out.new).made_as ≡ (O.outlet out.old).made_as }
-    ensures risen { HasRisenInEither (folders_at H.Host G.Host O.Sink from.old to.old out.old)
-        (folders_at H.Host G.Host O.Sink from.new to.new out.new) (cause_by result) }
+    ensures risen { HasRisenInEither (directories_at H.Host G.Host O.Sink from.old to.old out.old)
+        (directories_at H.Host G.Host O.Sink from.new to.new out.new) (cause_by result) }
     ensures checks { Checks true H.tells (H.world from.old) (H.world from.new)
-        (folder_at G.Host to.old) (folder_at G.Host to.new)
+        (directory_at G.Host to.old) (directory_at G.Host to.new)
         (stream_at O.Sink out.old) (stream_at O.Sink out.new) (cause_by result) }
 {
     let found = diagnose(alloc, from)?;
@@ -65,7 +65,7 @@ fn tell_and_save<H: Host, G: Host, O: Sink>(
     Ok(verdict)
 }
 
-// Writes what is saved by the plan into the new folder, in a session of its own.
+// Writes what is saved by the plan into the new directory, in a session of its own.
 fn save<H: Host, G: Host>(
     alloc: Global,
     from: &mut H,
@@ -83,7 +83,7 @@ fn save<H: Host, G: Host>(
     ensures rises { RisesOfBoth (H.session from.old) (H.session from.new)
         (G.session to.old) (G.session to.new) (cause_in result) }
     ensures saves { IsTrue H.tells → Writes (reading (H.world from.old))
-        (folder_at G.Host to.old) (folder_at G.Host to.new) (cause_in result) }
+        (directory_at G.Host to.old) (directory_at G.Host to.new) (cause_in result) }
 {
     to.enter(alloc)?;
     let filled = fill_target(alloc, from, to, plan);

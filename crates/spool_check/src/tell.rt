@@ -1,15 +1,15 @@
-//! Telling the faults of a folder.
+//! Telling the faults of a directory.
 ghost use Rattle.std.specs.Prelude.{◌≡◌};
-ghost use Rattle.cause_output.specs.Putting.{PutsLines, joined_lines};
-ghost use Rattle.cause_output.specs.Sinks.{sink_at};
+ghost use Rattle.tool_output.specs.PutLines.{PutsLines, joined_lines};
+ghost use Rattle.tool_output.specs.Sinks.{sink_at};
 ghost use Rattle.listing_text.specs.Cause.{fault_line_of};
-ghost use Rattle.spool_check.specs.inside.Looking.{ReportsFaults};
-ghost use Rattle.spool_check.specs.Telling.{cause_of_faults};
+ghost use Rattle.spool_check.specs.inside.CheckParts.{ReportsFaults};
+ghost use Rattle.spool_check.specs.FaultLines.{cause_of_faults};
 
-use cause_output::CommandError;
 use host_calls::{Damage, Sink, SinkFault};
 use listing_text::{Cause, fault_line};
 use std::alloc::Global;
+use tool_output::CommandError;
 
 // Puts the line of each fault, and answers whether there is one.
 pub(crate) fn report_faults<O: Sink>(

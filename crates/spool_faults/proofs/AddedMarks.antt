@@ -7,9 +7,9 @@ use Rattle.std.specs.Option.{option_or}
 use Rattle.std.proofs.lemmas.Bool.{and_from, and_parts, or_from, or_parts}
 use Rattle.std.proofs.lemmas.List.{append-nil}
 use Rattle.std.proofs.lemmas.List.Folds.{list_any-append}
-use Rattle.clock_range.specs.ClockRange.{is_clock_second}
-use Rattle.clock_range.specs.declared.range.TheConstants.{LAST_MINUTE}
-use Rattle.hex_digits.specs.Values.{number_in}
+use Rattle.host_calls.specs.ClockRange.{is_clock_second}
+use Rattle.host_calls.specs.declared.clock_seconds.TheConstants.{LAST_MINUTE}
+use Rattle.text_reader.specs.HexValues.{number_in}
 use Rattle.host_calls.specs.declared.damage.Damage.{Damage}
 use Rattle.job_name.specs.JobName.{NamedJob, job_in_range, job_named, job_spelled}
 use Rattle.spool_model.specs.declared.number.TheConstants.{LAST_NUMBER}
@@ -129,7 +129,7 @@ NamesOnly all before base = (number : ℕ) → list_any (λ one. one == number) 
 abbrev HaveNumbers : List JobFile → Type 0
 HaveNumbers files = (file : JobFile) → Has files file → nat_le 1 file.job.number ≡ true
 
--- a job that no mark names may be taken back after those before it
+-- a job that no mark names may be removed after those before it
 removed_sound : (all : List Mark) (before : List ℕ) (files : List JobFile) (base : List Mark) → IsSound base → NamesOnly all before base → HaveNumbers files
     → IsSound (base ++ map removal_mark (filter (is_unnamed all) (first_files before files)))
 removed_sound all before [] base sound only numbers = subst IsSound (sym (append-nil base)) sound

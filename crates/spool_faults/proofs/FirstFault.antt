@@ -1,11 +1,11 @@
--- A folder shows its first fault, and without one the table that is saved of it.
+-- A directory shows its first fault, and without one the table that is saved of it.
 use Rattle.std.proofs.Common.{◌≡◌, ◌≤◌, ℕ, List, [], ◌∷◌, ◌++◌, Option, sym, ap, ◌∙◌, refl}
 use Rattle.std.specs.Prelude.{◌||◌, Result, Ok, Err}
 use Rattle.std.specs.FinMap.{entries, find}
 use Rattle.std.specs.List.{filter, filter_map, list_any}
 use Rattle.std.proofs.lemmas.List.{append-nil}
 use Rattle.host_calls.specs.declared.damage.Damage.{Damage}
-use Rattle.host_calls.specs.Folder.{Files, name_cmp}
+use Rattle.host_calls.specs.Directory.{Files, name_cmp}
 use Rattle.sequence_file.specs.LastNumber.{last_in}
 use Rattle.sequence_file.specs.Sequence.{sequence_file}
 use Rattle.spool_model.specs.declared.number.TheConstants.{LAST_NUMBER}
@@ -16,13 +16,13 @@ use Rattle.start_journal.specs.declared.mark.Mark.{Mark}
 use Rattle.start_journal.specs.Journals.{journal_file, journal_in}
 use Rattle.start_journal.specs.Taken.{journal_faults, marks_taken, taken_of}
 use Rattle.spool_faults.specs.Faults.{faults_after, faults_of, files_faults, files_taken, jobs_faults, starts_faults}
-use Rattle.spool_faults.specs.Laws.{DamageIsTheFirstFault, FaultlessFoldersAreSavedWhole, IsSavedWhole, unless_faulty}
+use Rattle.spool_faults.specs.Laws.{DamageIsTheFirstFault, FaultlessDirectoriesAreSavedWhole, IsSavedWhole, unless_faulty}
 use Rattle.spool_faults.specs.Salvaged.{greatest, is_faulty, is_left, is_orphan, marks_with, name_numbers, salvaged, saved_after, saved_files, saved_last, saved_marks}
 use Rattle.spool_faults.proofs.FilesFirst.{all_left, files_first, files_kept, head_of, no_orphan, none_given_up, starts_first}
 use Rattle.spool_faults.proofs.JournalFirst.{both_empty, journal_first, journal_wider, read_marks, read_of, taken_drawn, taken_numbered}
 use Rattle.spool_faults.proofs.NumbersDrawn.{few_last, marks_small, names_small}
 
--- a folder whose sequence file and journal have no fault
+-- a directory whose sequence file and journal have no fault
 record IsFaultless (last : ℕ) (journal : Option (List ℕ)) : Type 0 where
   pub few : last ≤ LAST_NUMBER
   pub none : journal_faults last journal ≡ []
@@ -117,7 +117,7 @@ unfolding shown_by faults_of salvaged
 damage_is_the_first_fault files =
     last_then (find name_cmp sequence_file (entries files)) (last_in (find name_cmp sequence_file (entries files))) (find name_cmp journal_file (entries files)) (entries files) refl refl
 
--- a folder without a fault is saved whole
+-- a directory without a fault is saved whole
 saved_by : (files : Files) (faults : List Damage) → faults_of files ≡ faults → IsSavedWhole files
 saved_by files [] none = record {
   shown = λ is. damage_is_the_first_fault files ∙ ap (λ list. unless_faulty list (salvaged files)) is;
@@ -136,5 +136,5 @@ saved_by files (fault ∷ later) some = record {
       let impossible : Ok table ≡ Err fault = sym shows ∙ damage_is_the_first_fault files ∙ ap (λ list. unless_faulty list (salvaged files)) some in
       cc
 
-pub faultless_folders_are_saved_whole : FaultlessFoldersAreSavedWhole
-faultless_folders_are_saved_whole files = saved_by files (faults_of files) refl
+pub faultless_directories_are_saved_whole : FaultlessDirectoriesAreSavedWhole
+faultless_directories_are_saved_whole files = saved_by files (faults_of files) refl

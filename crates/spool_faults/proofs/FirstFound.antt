@@ -15,7 +15,7 @@ use Rattle.spool_faults.specs.declared.first_files.FirstFile.{FirstFile}
 use Rattle.spool_faults.specs.declared.first_files.FirstFiles.{FirstFiles}
 use Rattle.spool_faults.specs.declared.found_file.FoundFile.{FoundFile}
 use Rattle.spool_faults.specs.Faults.{first_files, has_header}
-use Rattle.spool_faults.specs.inside.Finding.{AreFirstFiles, bare, file_first, file_found, files_found, prefix_of}
+use Rattle.spool_faults.specs.inside.FoundFiles.{AreFirstFiles, bare, file_first, file_found, files_found, prefix_of}
 use Rattle.spool_shows.proofs.CutFiles.{cut, files_cut}
 use Rattle.spool_faults.proofs.CutFiles.{queue_cut, queue_in}
 use Rattle.spool_faults.proofs.JobFaults.{found_take, headed, queues_known, queues_more, queues_same, unheaded}
@@ -24,7 +24,7 @@ use Rattle.spool_faults.proofs.JobFaults.{found_take, headed, queues_known, queu
 abbrev unless_seen : Bool → JobFile → List JobFile
 unless_seen seen one = cond seen [] (one ∷ [])
 
--- one file more
+-- one more file
 first_more : (before : List ℕ) (files : List JobFile) (one : JobFile) → first_files before (files ++ one ∷ []) ≡ first_files before files ++ unless_seen (list_any (λ n. n == one.job.number) before || is_some (file_of one.job.number files)) one
 first_more before [] one = by_seen (list_any (λ n. n == one.job.number) before) where
   by_seen : (seen : Bool) → cond seen [] (one ∷ []) ≡ unless_seen (seen || false) one
@@ -65,7 +65,7 @@ queue_there : (found : Option JobFile) → is_some (queue_in found) ≡ is_some 
 queue_there None = refl
 queue_there (Some file) = refl
 
--- one file more that has no header
+-- one more file that has no header
 pub first_same : (files : List JobFile) (one : JobFile) (firsts : FirstFiles) → true ≡ is_some (header_fault_in one.bytes (header_in one.bytes)) → AreFirstFiles files firsts → AreFirstFiles (files ++ filter has_header (one ∷ [])) firsts
 first_same files one firsts fault are = record {
   queues = queues_same files one firsts.queues fault are.queues;

@@ -10,7 +10,7 @@ use Rattle.std.proofs.lemmas.Bool.Decides.{nat_tests}
 use Rattle.std.proofs.lemmas.List.{append-nil, get_or-map, length-map, map-append, take_all, take_more}
 use Rattle.std.proofs.lemmas.List.Elements.{filter-append, filter_map-append}
 use Rattle.std.proofs.lemmas.List.Folds.{list_any-append}
-use Rattle.host_calls.specs.Folder.{Files}
+use Rattle.host_calls.specs.Directory.{Files}
 use Rattle.job_name.specs.declared.job.JobName.{JobName}
 use Rattle.job_name.specs.JobName.{NamedJob, SpellsJobName, job_named}
 use Rattle.job_name.proofs.NamedJobs.{name_given, name_spelled}
@@ -23,7 +23,7 @@ use Rattle.spool_shows.specs.JobFiles.{JobFile, counts, counts_as, file_named, h
 use Rattle.spool_shows.proofs.Membership.{Has}
 use Rattle.spool_shows.proofs.EntryLists.{entry_is_file}
 use Rattle.spool_shows.proofs.ShownEntries.{some_same}
-use Rattle.spool_faults.specs.inside.Finding.{AreDecidedNumbers, IsCountedName, job_of_name, prefix_of}
+use Rattle.spool_faults.specs.inside.FoundFiles.{AreDecidedNumbers, IsCountedName, job_of_name, prefix_of}
 
 -- The place of a header's fault.
 
@@ -69,7 +69,7 @@ none_named marks name none = ap (counts_as marks) (not_named name none)
 pub named_job : (name : List ℕ) (job : JobName) → SpellsJobName name job.queue job.number job.minute job.new_form → job_named name ≡ Some (job_of_name job)
 named_job name job spelled = name_given name job.queue job.number job.minute job.new_form spelled
 
--- the decided numbers, with one mark more
+-- the finished numbers, with one more mark
 pub decided_pass : (number : ℕ) (marks : List Mark) (place : ℕ) (other : Mark) (old new : Bool) → place < length marks → old ≡ is_decided number (take place marks) → new ≡ (old || decides number (get_or marks place other)) → new ≡ is_decided number (take (place + 1) marks)
 decided_pass number marks place other old new inside before is =
     let one : Mark = get_or marks place other in
@@ -84,7 +84,7 @@ decided_pass number marks place other old new inside before is =
 pub decided_all : (marks : List Mark) (place : ℕ) (decided : BTreeSet ℕ) → length marks ≤ place → AreDecidedNumbers (take place marks) decided → AreDecidedNumbers marks decided
 decided_all marks place decided past are = subst (λ list. AreDecidedNumbers list decided) (take_all place marks past) are
 
--- One file more.
+-- One more file.
 
 pub counted_found : (marks : List Mark) (name bytes prefix : List ℕ) (job : JobName) (old new : List JobFile) → IsCountedName marks name (Some job) → new ≡ old ++ record { name = name; job = job_of_name job; bytes = prefix } ∷ [] → prefix ≡ bytes → new ≡ old ++ job_files marks ((name, bytes) ∷ [])
 counted_found marks name bytes prefix job old new counted more same =

@@ -12,7 +12,7 @@ use Rattle.std.proofs.lemmas.Bool.Decides.{nat_tests}
 use Rattle.std.proofs.lemmas.List.{append-nil, at_drop_all, map-append, take_all, take_more}
 use Rattle.std.proofs.lemmas.List.Elements.{filter_map-append}
 use Rattle.host_calls.specs.declared.damage.Damage.{Damage}
-use Rattle.host_calls.specs.Folder.{Files, name_cmp}
+use Rattle.host_calls.specs.Directory.{Files, name_cmp}
 use Rattle.job_script.specs.HeaderIn.{header_in}
 use Rattle.sequence_file.specs.LastNumber.{last_in}
 use Rattle.sequence_file.specs.Sequence.{sequence_file}
@@ -26,7 +26,7 @@ use Rattle.start_journal.specs.Marks.{is_decided}
 use Rattle.start_journal.specs.Taken.{journal_faults, marks_of, marks_taken, taken_of}
 use Rattle.spool_faults.specs.declared.found_file.FoundFile.{FoundFile}
 use Rattle.spool_faults.specs.Faults.{bound_by, faults_after, faults_of, files_faults, files_taken, has_header, jobs_faults, sequence_faults, starts_faults}
-use Rattle.spool_faults.specs.inside.Finding.{AreDecidedNumbers, AreQueues, HasNumbers, file_found, files_found, numbers_from, prefix_of}
+use Rattle.spool_faults.specs.inside.FoundFiles.{AreDecidedNumbers, AreQueues, HasNumbers, file_found, files_found, numbers_from, prefix_of}
 use Rattle.spool_shows.proofs.CutFiles.{cut, files_cut}
 use Rattle.spool_faults.proofs.CutFiles.{faults_cut, queue_in, queues_cut}
 
@@ -194,7 +194,7 @@ jobs_noted bound taken files found decided queues old middle new is are decides 
     ∙ ap (λ list. list ++ starts_faults marks (files_taken marks files) taken) (noted ∙ ap (λ list. old ++ files_faults bound [] list) cuts ∙ ap (λ list. old ++ list) (faults_cut bound [] (job_files marks files)))
     ∙ append_assoc old (files_faults bound [] (job_files marks files)) (starts_faults marks (files_taken marks files) taken)
 
--- the faults of the folder, after others
+-- the faults of the directory, after others
 pub all_noted : (last : Result ℕ Damage) (journal : Option (List ℕ)) (files : List (List ℕ × List ℕ)) (taken : List TakenMark) (bound : ℕ) (start first second third : List Damage) → first ≡ start ++ sequence_faults last → bound ≡ bound_by last → second ≡ first ++ journal_faults bound journal → taken ≡ taken_of journal → third ≡ second ++ jobs_faults bound (marks_of taken) taken files → third ≡ start ++ faults_after last journal files
 all_noted last journal files taken bound start first second third one is two marks three =
     three ∙ ap (λ list. list ++ jobs_faults bound (marks_of taken) taken files) (two ∙ ap (λ list. list ++ journal_faults bound journal) one)
@@ -208,8 +208,8 @@ pub none_taken : (journal : Option (List ℕ)) → journal ≡ None → [] ≡ t
 unfolding taken_of
 none_taken journal is = sym (ap taken_of is)
 
-pub folder_noted : (files : Files) (last : Result ℕ Damage) (journal : Option (List ℕ)) (start faults : List Damage) → last ≡ last_in (finite.get files sequence_file) → journal ≡ finite.get files journal_file → faults ≡ start ++ faults_after last journal (entries files) → faults ≡ start ++ faults_of files
+pub directory_noted : (files : Files) (last : Result ℕ Damage) (journal : Option (List ℕ)) (start faults : List Damage) → last ≡ last_in (finite.get files sequence_file) → journal ≡ finite.get files journal_file → faults ≡ start ++ faults_after last journal (entries files) → faults ≡ start ++ faults_of files
 unfolding faults_of
-folder_noted files last journal start faults of_last of_journal is =
+directory_noted files last journal start faults of_last of_journal is =
     is ∙ ap (λ l. start ++ faults_after l journal (entries files)) (of_last ∙ ap last_in (get-entries files sequence_file))
     ∙ ap (λ j. start ++ faults_after (last_in (find name_cmp sequence_file (entries files))) j (entries files)) (of_journal ∙ get-entries files journal_file)

@@ -1,4 +1,4 @@
--- Where a folder has no fault, no number in it is above the last one.
+-- Where a directory has no fault, no number in it is above the last one.
 use Rattle.std.proofs.Common.{◌≡◌, ◌≤◌, ℕ, Bool, true, false, List, [], ◌∷◌, Option, Some, None, sym, ap, ◌∙◌, refl, arith}
 use Rattle.std.specs.Prelude.{◌==◌, ◌||◌, Ok, nat_le, nat_lt, not, if◌then◌else◌}
 use Rattle.std.specs.List.{cons_option, filter, filter_map}
@@ -42,7 +42,7 @@ marks_small last (mark ∷ later) drawn = by_mark mark (and_parts (is_drawn last
   by_mark (Forgotten number) is rest = greatest_same last number (filter_map number_of_mark later) (not_above last number is) ∙ rest
   by_mark (Batch second) is rest = rest
 
--- a number that is decided was drawn
+-- a number that is finished was drawn
 same_not_above : (last number other : ℕ) → nat_le other last ≡ true → (other == number) ≡ true → nat_lt last number ≡ false
 same_not_above last number other drawn same = grind (arith, nat_tests)
 

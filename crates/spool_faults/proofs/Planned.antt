@@ -7,7 +7,7 @@ use Rattle.std.specs.List.{filter, filter_map, list_any}
 use Rattle.std.proofs.lemmas.Bool.{and_parts, eqb-true}
 use Rattle.std.proofs.lemmas.List.{append-nil, nil_from_length}
 use Rattle.host_calls.specs.declared.damage.Damage.{Damage}
-use Rattle.host_calls.specs.Folder.{Files, name_cmp}
+use Rattle.host_calls.specs.Directory.{Files, name_cmp}
 use Rattle.sequence_file.specs.LastNumber.{last_in}
 use Rattle.sequence_file.specs.Sequence.{IsFaultAt, SpellsIn, SpellsSequence, sequence_file}
 use Rattle.sequence_file.proofs.LastNumbers.{last_damage, last_given}
@@ -22,12 +22,12 @@ use Rattle.start_journal.specs.Marks.{number_of_mark}
 use Rattle.start_journal.specs.Taken.{journal_faults, marks_of, marks_taken, taken_of}
 use Rattle.start_journal.proofs.ReadLemmas.{all_writable}
 use Rattle.spool_faults.specs.declared.first_files.FirstFiles.{FirstFiles}
-use Rattle.spool_faults.specs.declared.look.Look.{Look}
+use Rattle.spool_faults.specs.declared.scan.SpoolScan.{SpoolScan}
 use Rattle.spool_faults.specs.Faults.{bound_by, faults_of, first_files, has_header, jobs_faults, sequence_faults}
 use Rattle.spool_faults.specs.Plan.{IsPlanOf, name_of_file}
-use Rattle.spool_faults.specs.Salvaged.{given_up, greatest, is_faulty, is_left, is_orphan, is_unnamed, last_told, loses_marks, marks_of_salvage, marks_with, number_named, removal_mark}
-use Rattle.spool_faults.specs.inside.Finding.{AreFirstFiles, AreQueues}
-use Rattle.spool_faults.specs.inside.Looking.{IsLook}
+use Rattle.spool_faults.specs.Salvaged.{given_up, greatest, is_faulty, is_left, is_orphan, is_unnamed, last_or_zero, loses_marks, marks_of_salvage, marks_with, number_named, removal_mark}
+use Rattle.spool_faults.specs.inside.FoundFiles.{AreFirstFiles, AreQueues}
+use Rattle.spool_faults.specs.inside.ScanResult.{IsSpoolScan}
 use Rattle.spool_faults.proofs.CutFiles.{first_of, queue_in}
 use Rattle.spool_faults.proofs.FilesFirst.{no_orphan}
 use Rattle.spool_faults.proofs.JournalFirst.{both_empty, journal_wider}
@@ -64,7 +64,7 @@ up_none all files mark number queue second fault is here none =
 pub none_listed : (faults : List Damage) → true ≡ (length faults == 0) → faults ≡ []
 none_listed faults is = nil_from_length faults (eqb-true (length faults) 0 (sym is))
 
--- where a folder has no fault, its journal has none by the greatest bound
+-- where a directory has no fault, its journal has none by the greatest bound
 few_bound : (content : Option (List ℕ)) (last : Result ℕ Damage) → last_in content ≡ last → bound_by last ≤ LAST_NUMBER
 few_bound content (Ok last) is = few_last content last is
 few_bound content (Err damage) is = omega arith
@@ -91,7 +91,7 @@ saved_lost marks taken true empty first second saved backs none one two some is 
     ∙ ap (λ list. list ++ map removal_mark (filter (is_unnamed marks) taken)) (two ∙ ap (λ list. list ++ filter_map (given_up marks taken) marks) (one ∙ ap (λ list. list ++ marks) none))
     ∙ append_assoc marks (filter_map (given_up marks taken) marks) (map removal_mark (filter (is_unnamed marks) taken))
 
-module _ (files : Files) (look : Look) (is : IsLook files look) where
+module _ (files : Files) (scan : SpoolScan) (is : IsSpoolScan files scan) where
   -- the journal, and the files that are taken by some marks
   abbrev journal : Option (List ℕ)
   journal = find name_cmp journal_file (entries files)
@@ -99,45 +99,45 @@ module _ (files : Files) (look : Look) (is : IsLook files look) where
   abbrev taken_by : List Mark → List JobFile
   taken_by marks = first_files [] (filter has_header (job_files marks (entries files)))
 
-  of_journal : look.journal ≡ journal
+  of_journal : scan.journal ≡ journal
   of_journal = is.journal ∙ get-entries files journal_file
 
-  of_marks : look.marks.items ≡ marks_taken journal
+  of_marks : scan.marks.items ≡ marks_taken journal
   of_marks = is.marks ∙ ap marks_taken of_journal
 
-  of_number : look.number ≡ last_in (find name_cmp sequence_file (entries files))
+  of_number : scan.number ≡ last_in (find name_cmp sequence_file (entries files))
   of_number = is.number ∙ ap last_in (get-entries files sequence_file)
 
-  saved_is : (saved : List Mark) → saved ≡ marks_with look.marks.items (taken_by look.marks.items) (loses_marks look.number look.journal (taken_by look.marks.items)) → saved ≡ marks_of_salvage files
+  saved_is : (saved : List Mark) → saved ≡ marks_with scan.marks.items (taken_by scan.marks.items) (loses_marks scan.number scan.journal (taken_by scan.marks.items)) → saved ≡ marks_of_salvage files
   saved_is saved so =
-      so ∙ ap (λ list. marks_with list (taken_by list) (loses_marks look.number look.journal (taken_by list))) of_marks
-      ∙ ap (λ content. marks_with (marks_taken journal) (taken_by (marks_taken journal)) (loses_marks look.number content (taken_by (marks_taken journal)))) of_journal
+      so ∙ ap (λ list. marks_with list (taken_by list) (loses_marks scan.number scan.journal (taken_by list))) of_marks
+      ∙ ap (λ content. marks_with (marks_taken journal) (taken_by (marks_taken journal)) (loses_marks scan.number content (taken_by (marks_taken journal)))) of_journal
       ∙ ap (λ last. marks_with (marks_taken journal) (taken_by (marks_taken journal)) (loses_marks last journal (taken_by (marks_taken journal)))) of_number
 
   -- whether a mark may be lost: the journal has a fault, or one of its marks is an orphan
-  pub lost_is : (faulty orphan lost : Bool) → faulty ≡ is_faulty (journal_faults LAST_NUMBER look.journal) → orphan ≡ list_any (is_orphan (last_told look.number) look.marks.items (taken_by look.marks.items)) look.marks.items → lost ≡ (faulty || orphan) → lost ≡ loses_marks look.number look.journal (taken_by look.marks.items)
+  pub lost_is : (faulty orphan lost : Bool) → faulty ≡ is_faulty (journal_faults LAST_NUMBER scan.journal) → orphan ≡ list_any (is_orphan (last_or_zero scan.number) scan.marks.items (taken_by scan.marks.items)) scan.marks.items → lost ≡ (faulty || orphan) → lost ≡ loses_marks scan.number scan.journal (taken_by scan.marks.items)
   lost_is faulty orphan lost of_faults of_orphans so =
       so ∙ ap (λ b. b || orphan) of_faults
-      ∙ ap (λ b. is_faulty (journal_faults LAST_NUMBER look.journal) || b)
-      (of_orphans ∙ ap (λ list. list_any (is_orphan (last_told look.number) list (taken_by look.marks.items)) list) is.marks)
+      ∙ ap (λ b. is_faulty (journal_faults LAST_NUMBER scan.journal) || b)
+      (of_orphans ∙ ap (λ list. list_any (is_orphan (last_or_zero scan.number) list (taken_by scan.marks.items)) list) is.marks)
 
-  -- none is where the folder has no fault
-  pub none_lost : faults_of files ≡ [] → loses_marks look.number look.journal (taken_by look.marks.items) ≡ false
+  -- none is where the directory has no fault
+  pub none_lost : faults_of files ≡ [] → loses_marks scan.number scan.journal (taken_by scan.marks.items) ≡ false
   unfolding faults_of
   none_lost none =
       let told : Result ℕ Damage = last_in (find name_cmp sequence_file (entries files)) in
       let later : journal_faults (bound_by told) journal ++ jobs_faults (bound_by told) (marks_taken journal) (taken_of journal) (entries files) ≡ [] = (both_empty (sequence_faults told) _ none).1 in
       let jobs : jobs_faults (bound_by told) (marks_taken journal) (taken_of journal) (entries files) ≡ [] = (both_empty _ _ later).1 in
-      let no_orphans : list_any (is_orphan (last_told look.number) (marks_taken journal) (taken_by (marks_taken journal))) (marks_taken journal) ≡ false =
-      no_orphan (last_told look.number) (marks_taken journal) (taken_by (marks_taken journal)) (taken_of journal) (both_empty _ _ jobs).1 in
-      ap (λ list. loses_marks look.number look.journal (taken_by list)) of_marks
-      ∙ ap (λ content. loses_marks look.number content (taken_by (marks_taken journal))) of_journal
-      ∙ ap (λ list. is_faulty list || list_any (is_orphan (last_told look.number) (marks_taken journal) (taken_by (marks_taken journal))) (marks_taken journal)) (faultless_journal files journal (sym (get-entries files journal_file)) none)
+      let no_orphans : list_any (is_orphan (last_or_zero scan.number) (marks_taken journal) (taken_by (marks_taken journal))) (marks_taken journal) ≡ false =
+      no_orphan (last_or_zero scan.number) (marks_taken journal) (taken_by (marks_taken journal)) (taken_of journal) (both_empty _ _ jobs).1 in
+      ap (λ list. loses_marks scan.number scan.journal (taken_by list)) of_marks
+      ∙ ap (λ content. loses_marks scan.number content (taken_by (marks_taken journal))) of_journal
+      ∙ ap (λ list. is_faulty list || list_any (is_orphan (last_or_zero scan.number) (marks_taken journal) (taken_by (marks_taken journal))) (marks_taken journal)) (faultless_journal files journal (sym (get-entries files journal_file)) none)
       ∙ no_orphans
 
-  pub planned : (saved : List Mark) (names : List (List ℕ)) (text sequence : List ℕ) (last : ℕ) → saved ≡ marks_with look.marks.items (taken_by look.marks.items) (loses_marks look.number look.journal (taken_by look.marks.items))
-      → names ≡ map name_of_file (filter (is_left saved) (taken_by look.marks.items)) → SpellsJournal text saved 256
-      → last ≡ greatest (greatest (last_told look.number) (filter_map number_of_mark look.marks.items)) (filter_map number_named look.names.items) → SpellsIn true sequence last → IsPlanOf files names text sequence
+  pub planned : (saved : List Mark) (names : List (List ℕ)) (text sequence : List ℕ) (last : ℕ) → saved ≡ marks_with scan.marks.items (taken_by scan.marks.items) (loses_marks scan.number scan.journal (taken_by scan.marks.items))
+      → names ≡ map name_of_file (filter (is_left saved) (taken_by scan.marks.items)) → SpellsJournal text saved 256
+      → last ≡ greatest (greatest (last_or_zero scan.number) (filter_map number_of_mark scan.marks.items)) (filter_map number_named scan.names.items) → SpellsIn true sequence last → IsPlanOf files names text sequence
   planned saved names text sequence last so named spelled number spells = record {
     names_are =
         named ∙ ap (λ marks. map name_of_file (filter (is_left saved) (taken_by marks))) of_marks
@@ -146,9 +146,9 @@ module _ (files : Files) (look : Look) (is : IsLook files look) where
     sequence_is =
         subst (SpellsIn true sequence)
         (number
-        ∙ ap (λ told. greatest (greatest (last_told told) (filter_map number_of_mark look.marks.items)) (filter_map number_named look.names.items)) of_number
-        ∙ ap (λ marks. greatest (greatest (last_told (last_in (find name_cmp sequence_file (entries files)))) (filter_map number_of_mark marks)) (filter_map number_named look.names.items)) of_marks
-        ∙ ap (λ list. greatest (greatest (last_told (last_in (find name_cmp sequence_file (entries files)))) (filter_map number_of_mark (marks_taken journal))) (filter_map number_named list)) is.names
-        ∙ ap (greatest (greatest (last_told (last_in (find name_cmp sequence_file (entries files)))) (filter_map number_of_mark (marks_taken journal)))) (sym (given_made (λ (e : List ℕ × List ℕ). e.0) number_named (entries files))))
+        ∙ ap (λ told. greatest (greatest (last_or_zero told) (filter_map number_of_mark scan.marks.items)) (filter_map number_named scan.names.items)) of_number
+        ∙ ap (λ marks. greatest (greatest (last_or_zero (last_in (find name_cmp sequence_file (entries files)))) (filter_map number_of_mark marks)) (filter_map number_named scan.names.items)) of_marks
+        ∙ ap (λ list. greatest (greatest (last_or_zero (last_in (find name_cmp sequence_file (entries files)))) (filter_map number_of_mark (marks_taken journal))) (filter_map number_named list)) is.names
+        ∙ ap (greatest (greatest (last_or_zero (last_in (find name_cmp sequence_file (entries files)))) (filter_map number_of_mark (marks_taken journal)))) (sym (given_made (λ (e : List ℕ × List ℕ). e.0) number_named (entries files))))
         spells;
   }

@@ -1,4 +1,4 @@
--- A folder that has what is saved of another has of files of jobs that count those that are saved.
+-- A directory that has what is saved of another has of files of jobs that count those that are saved.
 use Rattle.std.proofs.Common.{◌≡◌, ℕ, Bool, true, false, cond, ◌&&◌, List, [], ◌∷◌, map, sym, ap, subst, ◌∙◌, refl, inl, inr}
 use Rattle.std.specs.Prelude.{◌==◌, Option, Some, None, T, if◌then◌else◌}
 use Rattle.std.specs.Cmp.Lexicographic.{nat_list_cmp_total}
@@ -10,7 +10,7 @@ use Rattle.std.specs.Ordering.{is_lt}
 use Rattle.std.specs.declared.cmp.Ordering.{Ordering}
 use Rattle.std.specs.declared.cmp.Ordering.TheVariants.{Less}
 use Rattle.std.proofs.lemmas.Map.Lookups.{exact_bytes}
-use Rattle.host_calls.specs.Folder.{Files, name_cmp}
+use Rattle.host_calls.specs.Directory.{Files, name_cmp}
 use Rattle.job_name.specs.JobName.{NamedJob, job_named}
 use Rattle.spool_shows.specs.JobFiles.{JobFile, counts, counts_as, file_named, job_file, job_files}
 use Rattle.spool_shows.proofs.EntryLists.{key_has}
@@ -30,7 +30,7 @@ use Rattle.spool_faults.proofs.SavedNumbers.{first_has, taken_has}
 abbrev name_of : JobFile → List ℕ
 name_of file = file.name
 
--- the first files of each number stand in the order of all
+-- the first files of each number are in the order of all
 first_order : (before : List ℕ) (files : List JobFile) → AreInOrder name_of files → AreInOrder name_of (first_files before files)
 first_order before [] order = tt
 first_order before (file ∷ later) order = by_seen (list_any (λ number. number == file.job.number) before) (first_order before later order.1) (first_order (file.job.number ∷ before) later order.1) where
@@ -78,8 +78,8 @@ module _ (files : Files) where
 
   saved_has : (file : JobFile) → Has (files_of_salvage files) file → (job_named file.name ≡ Some file.job) × (is_left (marks_of_salvage files) file ≡ true)
   saved_has file has =
-      let stands : Has taken_files file × (is_left (marks_of_salvage files) file ≡ true) = filtered_has (is_left (marks_of_salvage files)) taken_files file has in
-      (named_of taken_marks (entries files) file (taken_has taken_marks (entries files) file stands.0).0, stands.1)
+      let holds : Has taken_files file × (is_left (marks_of_salvage files) file ≡ true) = filtered_has (is_left (marks_of_salvage files)) taken_files file has in
+      (named_of taken_marks (entries files) file (taken_has taken_marks (entries files) file holds.0).0, holds.1)
 
   saved_sorted : T (is_sorted name_cmp (map named_bytes (files_of_salvage files)))
   saved_sorted =

@@ -15,7 +15,7 @@ use Rattle.start_journal.specs.Journals.{are_drawn, is_drawn}
 use Rattle.start_journal.specs.Marks.{number_of_mark}
 use Rattle.start_journal.specs.Taken.{marks_taken}
 use Rattle.spool_faults.specs.Faults.{files_taken, first_files, has_header}
-use Rattle.spool_faults.specs.Salvaged.{given_up, greatest, is_unnamed, last_told, loses_marks, name_numbers, number_named, removal_mark, saved_last, saved_marks, taken_back}
+use Rattle.spool_faults.specs.Salvaged.{given_up, greatest, is_unnamed, last_or_zero, loses_marks, name_numbers, number_named, removal_mark, saved_last, saved_marks, taken_back}
 use Rattle.spool_faults.proofs.AddedMarks.{IsGivenUp, is_given_up}
 
 -- the greatest is at least the first number, and each of the others
@@ -76,16 +76,16 @@ module _ (last : Result ℕ Damage) (journal : Option (List ℕ)) (files : List 
   pub file_at_most : (marks : List Mark) (file : JobFile) → Has (job_files marks files) file → file.job.number ≤ saved_last last journal files
   file_at_most marks file has =
       let entry : (e : List ℕ × List ℕ) × Has (filter (λ (e : List ℕ × List ℕ). counts marks e.0) files) e × (job_file e ≡ Some file) = given_has job_file _ file has in
-      let stands : Has files entry.0 × (counts marks entry.0.0 ≡ true) = filtered_has (λ (e : List ℕ × List ℕ). counts marks e.0) files entry.0 entry.1 in
+      let holds : Has files entry.0 × (counts marks entry.0.0 ≡ true) = filtered_has (λ (e : List ℕ × List ℕ). counts marks e.0) files entry.0 entry.1 in
       let says : (file.name ≡ entry.0.0) × (file.bytes ≡ entry.0.1) × (job_named entry.0.0 ≡ Some file.job) = file_says entry.0.0 entry.0.1 (job_named entry.0.0) file entry.2 in
       greatest_has _ file.job.number (name_numbers files)
-      (has_given (λ (e : List ℕ × List ℕ). number_named e.0) files entry.0 file.job.number stands.0 (ap (option_map (λ (job : NamedJob). job.number)) says.2))
+      (has_given (λ (e : List ℕ × List ℕ). number_named e.0) files entry.0 file.job.number holds.0 (ap (option_map (λ (job : NamedJob). job.number)) says.2))
 
   -- and that of a mark that is taken is one of those marks
   taken_at_most : (mark : Mark) (number : ℕ) → Has (marks_taken journal) mark → number_of_mark mark ≡ Some number → number ≤ saved_last last journal files
   taken_at_most mark number has names =
-      let among : number ≤ greatest (last_told last) (filter_map number_of_mark (marks_taken journal)) = greatest_has (last_told last) number (filter_map number_of_mark (marks_taken journal)) (has_given number_of_mark (marks_taken journal) mark number has names) in
-      let more : greatest (last_told last) (filter_map number_of_mark (marks_taken journal)) ≤ saved_last last journal files = greatest_least (greatest (last_told last) (filter_map number_of_mark (marks_taken journal))) (name_numbers files) in
+      let among : number ≤ greatest (last_or_zero last) (filter_map number_of_mark (marks_taken journal)) = greatest_has (last_or_zero last) number (filter_map number_of_mark (marks_taken journal)) (has_given number_of_mark (marks_taken journal) mark number has names) in
+      let more : greatest (last_or_zero last) (filter_map number_of_mark (marks_taken journal)) ≤ saved_last last journal files = greatest_least (greatest (last_or_zero last) (filter_map number_of_mark (marks_taken journal))) (name_numbers files) in
       omega arith
 
   -- a mark that gives up a start names the number of that start
@@ -101,9 +101,9 @@ module _ (last : Result ℕ Damage) (journal : Option (List ℕ)) (files : List 
   taken_back_at_most mark false has = absurd has
   taken_back_at_most mark true has =
       let from : (file : JobFile) × Has (filter (is_unnamed (marks_taken journal)) (files_taken (marks_taken journal) files)) file × (removal_mark file ≡ mark) = made_has removal_mark (filter (is_unnamed (marks_taken journal)) (files_taken (marks_taken journal) files)) mark has in
-      let stands : Has (files_taken (marks_taken journal) files) from.0 = (filtered_has (is_unnamed (marks_taken journal)) (files_taken (marks_taken journal) files) from.0 from.1).0 in
+      let holds : Has (files_taken (marks_taken journal) files) from.0 = (filtered_has (is_unnamed (marks_taken journal)) (files_taken (marks_taken journal) files) from.0 from.1).0 in
       ap (is_drawn (saved_last last journal files)) (sym from.2)
-      ∙ at_most from.0.job.number (saved_last last journal files) (file_at_most (marks_taken journal) from.0 (taken_has (marks_taken journal) files from.0 stands).0)
+      ∙ at_most from.0.job.number (saved_last last journal files) (file_at_most (marks_taken journal) from.0 (taken_has (marks_taken journal) files from.0 holds).0)
 
   -- so each number of the marks that are saved counts as drawn
   pub saved_drawn : are_drawn (saved_last last journal files) (saved_marks last journal files) ≡ true

@@ -150,8 +150,8 @@ module _ (last : Result ℕ Damage) (journal : Option (List ℕ)) (files : List 
   -- each file that is saved is whole
   file_whole : (file : JobFile) → Has (filter has_header (job_files (marks_taken journal) files)) file → IsWholeFile (saved_last last journal files) file
   file_whole file has =
-      let stands : Has (job_files (marks_taken journal) files) file × (has_header file ≡ true) = filtered_has has_header (job_files (marks_taken journal) files) file has in
-      record { drawn = file_at_most last journal files (marks_taken journal) file stands.0; header = stands.1 }
+      let holds : Has (job_files (marks_taken journal) files) file × (has_header file ≡ true) = filtered_has has_header (job_files (marks_taken journal) files) file has in
+      record { drawn = file_at_most last journal files (marks_taken journal) file holds.0; header = holds.1 }
 
   -- no file and no start that is saved has damage
   pub saved_undamaged : damage_of_jobs (saved_last last journal files) (saved_marks last journal files) (saved_files last journal files) ≡ None

@@ -13,8 +13,8 @@ use Rattle.spool_faults.specs.declared.first_files.FirstFiles.{FirstFiles}
 use Rattle.spool_faults.specs.Faults.{first_files}
 use Rattle.spool_faults.specs.Plan.{name_of_file}
 use Rattle.spool_faults.specs.Salvaged.{greatest, is_left, is_unnamed, removal_mark}
-use Rattle.spool_faults.specs.inside.Finding.{AreDecidedNumbers, AreFirstFiles, bare, file_first}
-use Rattle.spool_faults.specs.inside.Saving.{AreNamedNumbers, name_unless, removal_unless}
+use Rattle.spool_faults.specs.inside.FoundFiles.{AreDecidedNumbers, AreFirstFiles, bare, file_first}
+use Rattle.spool_faults.specs.inside.SavedParts.{AreNamedNumbers, name_unless, removal_unless}
 
 -- What a function gives.
 

@@ -1,41 +1,41 @@
--- A folder that is settled.
+-- A directory that is settled.
 use Rattle.std.proofs.Common.{◌≡◌, ◌++◌, List, [], sym, ap, subst, ◌∙◌, inl, inr}
 use Rattle.std.specs.Prelude.{Result, Ok, Err}
 use Rattle.host_calls.specs.declared.damage.Damage.{Damage}
 use Rattle.host_calls.specs.declared.fault.HostFault.{HostFault}
 use Rattle.host_calls.specs.declared.fault.HostFault.TheVariants as host
-use Rattle.host_calls.specs.Folder.{Files, Folder, IsImage, IsSettled, IsSyncedInPart, reading_of}
+use Rattle.host_calls.specs.Directory.{Files, Directory, IsImage, IsSettled, IsSyncedInPart, reading_of}
 use Rattle.host_calls.specs.World.{FileCall, World, reading}
-use Rattle.host_calls.proofs.FolderLemmas.{reading_is_image, reading_of-settled, settled_image}
+use Rattle.host_calls.proofs.DirectoryLemmas.{reading_is_image, reading_of-settled, settled_image}
 use Rattle.whole_file.proofs.OthersLemmas.{changes_none, changes_then}
 use Rattle.whole_file.specs.Others.{ChangesFiles}
 use Rattle.spool_faults.specs.Faults.{faults_of}
-use Rattle.spool_faults.specs.Listed.{LeavesFolder}
+use Rattle.spool_faults.specs.Listed.{LeavesDirectory}
 
 -- it has no new image
-settled_before : (start new : Folder) (image : Files) → IsSettled start new → IsImage new image → IsImage start image
+settled_before : (start new : Directory) (image : Files) → IsSettled start new → IsImage new image → IsImage start image
 settled_before start new image done is =
-    subst (IsImage start) (sym (settled_image start image (subst (λ folder. IsImage folder image) done is))) (reading_is_image start)
+    subst (IsImage start) (sym (settled_image start image (subst (λ directory. IsImage directory image) done is))) (reading_is_image start)
 
-settling : {T : Type 0} (old new : World) (result : Result T HostFault) → FileCall IsSettled IsSyncedInPart old new result → ChangesFiles (IsImage old.now.folder) old new
+settling : {T : Type 0} (old new : World) (result : Result T HostFault) → FileCall IsSettled IsSyncedInPart old new result → ChangesFiles (IsImage old.now.directory) old new
 settling old new result call =
-    changes_then (IsImage old.now.folder) IsSettled IsSyncedInPart old old new result (changes_none (IsImage old.now.folder) old) call (λ image within. elim within [
+    changes_then (IsImage old.now.directory) IsSettled IsSyncedInPart old old new result (changes_none (IsImage old.now.directory) old) call (λ image within. elim within [
       | inl is ↦ is
-      | inr done ↦ settled_before old.now.folder done.0 image done.1 done.2
+      | inr done ↦ settled_before old.now.directory done.0 image done.1 done.2
     ])
 
 -- and reads as before, whatever came of it
 settling_reads : {T : Type 0} (old new : World) (result : Result T HostFault) → FileCall IsSettled IsSyncedInPart old new result → reading new ≡ reading old
-settling_reads old new (Ok value) call = ap reading_of call.outcome ∙ reading_of-settled old.now.folder
+settling_reads old new (Ok value) call = ap reading_of call.outcome ∙ reading_of-settled old.now.directory
 settling_reads old new (Err host.Failed) call = elim call.outcome [ inl same ↦ ap reading_of same | inr part ↦ part.reading ]
 settling_reads old new (Err host.Memory) call = ap reading call.outcome
 
-pub settling_leaves : {T : Type 0} (old new : World) (result : Result T HostFault) → FileCall IsSettled IsSyncedInPart old new result → LeavesFolder old new
+pub settling_leaves : {T : Type 0} (old new : World) (result : Result T HostFault) → FileCall IsSettled IsSyncedInPart old new result → LeavesDirectory old new
 settling_leaves old new result call = record { same = settling_reads old new result call; files = settling old new result call }
 
 -- looking after it changes nothing
-pub looked_leaves : {T : Type 0} (old settled new : World) (result : Result T HostFault) → FileCall IsSettled IsSyncedInPart old settled result → new ≡ settled → LeavesFolder old new
-looked_leaves old settled new result call same = subst (LeavesFolder old) (sym same) (settling_leaves old settled result call)
+pub looked_leaves : {T : Type 0} (old settled new : World) (result : Result T HostFault) → FileCall IsSettled IsSyncedInPart old settled result → new ≡ settled → LeavesDirectory old new
+looked_leaves old settled new result call same = subst (LeavesDirectory old) (sym same) (settling_leaves old settled result call)
 
 -- its faults, after none
 pub faults_after : (settled : World) (start faults : List Damage) → faults ≡ start ++ faults_of (reading settled) → start ≡ [] → faults ≡ faults_of (reading settled)

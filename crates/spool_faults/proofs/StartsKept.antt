@@ -6,7 +6,7 @@ use Rattle.std.specs.FinMap.{entries, find, get-entries, get-from_entries}
 use Rattle.std.specs.List.{filter, filter_map}
 use Rattle.std.specs.Ordering.{nat_cmp}
 use Rattle.std.proofs.lemmas.Map.Lookups.{exact_unsigned}
-use Rattle.host_calls.specs.Folder.{Files, name_cmp}
+use Rattle.host_calls.specs.Directory.{Files, name_cmp}
 use Rattle.spool_model.specs.declared.entry.Entry.TheVariants.{Live, Done}
 use Rattle.spool_model.specs.declared.fate.Fate.{Fate}
 use Rattle.spool_model.specs.declared.fate.Fate.TheVariants as fate
@@ -95,7 +95,7 @@ starts_are_not_pending files number queue second contains pending =
     has_left _ _ (Started number queue second) (subst (λ content. Has (marks_taken content) (Started number queue second)) (get-entries files journal_file) (has_contained _ (Started number queue second) contains)) in
     started_some (marks_of_salvage files) number queue second started (saved_waiting files number pending).unstarted
 
--- the job of a file that no mark names is taken back, where a mark may be lost
+-- the job of a file that no mark names is removed, where a mark may be lost
 removed_back : (marks : List Mark) (files : List JobFile) (lost : Bool) (file : JobFile) → lost ≡ true → Has files file → has_mark_of file.job.number marks ≡ false → Has (taken_back marks files lost) (Removed file.job.number)
 removed_back marks files false file is has unnamed = let impossible : false ≡ true = is in cc
 removed_back marks files true file is has unnamed =

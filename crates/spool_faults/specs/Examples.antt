@@ -1,4 +1,4 @@
--- Small folders, all their faults, and what is saved of them, by computing.
+-- Small directories, all their faults, and what is saved of them, by computing.
 use Rattle.std.specs.Prelude.{◌≡◌, ◌++◌, [], ◌∷◌, ℕ, pos, List, Some, None, codes}
 use Rattle.std.specs.FinMap.{from_entries}
 use Rattle.spool_faults.specs.Faults.{all_faults}
@@ -71,8 +71,8 @@ orphan_beside_a_job = journal fifth_started ∷ sequence (codes "00001\n") ∷ f
 abbrev pub both_forms : List File
 both_forms = sequence (codes "00000001\n") ∷ first_job_new_form ∷ first_job ∷ []
 
--- all faults of small folders
-pub record SmallFoldersHaveFaults : Type 0 where
+-- all faults of small directories
+pub record SmallDirectoriesHaveFaults : Type 0 where
   pub undrawn_job : all_faults undrawn ≡ damaged (codes "a0000201b968a0") 0 (Some 35) ∷ []
   pub rest : all_faults journal_with_rest ≡ damaged journal_file 32 (Some 46) ∷ damaged (codes "a0000201b968a0") 0 (Some 35) ∷ []
   pub no_file : all_faults without_file ≡ damaged journal_file 0 (Some 43) ∷ []
@@ -89,7 +89,7 @@ abbrev pub with_two : JobEntry → JobEntry → JobTable
 with_two first second = table_of 2 (from_entries ((1, first) ∷ (2, second) ∷ [])) None
 
 -- what is saved of them
-pub record SmallFoldersAreSalvaged : Type 0 where
+pub record SmallDirectoriesAreSalvaged : Type 0 where
   pub undrawn_job : all_saved undrawn ≡ with_two (live Pending) (live Pending)
   pub rest : all_saved journal_with_rest ≡ with_two (Done Removed) (Done Removed)
   pub no_file : all_saved without_file ≡ with_first (Done Interrupted)

@@ -1,10 +1,10 @@
--- All faults of a spool folder (own), in the order in which recovery looks for the first one: of the sequence file, of
--- the journal, of the files of jobs in byte order of their names, and of the starts in the order of their marks.
+-- All faults of a spool directory (own), in the order in which recovery looks for the first one: of the sequence file,
+-- of the journal, of the files of jobs in byte order of their names, and of the starts in the order of their marks.
 use Rattle.std.specs.Prelude.{◌==◌, ◌++◌, [], ◌∷◌, ℕ, Bool, List, Option, Result, Ok, Err, is_some, if◌then◌else◌}
 use Rattle.std.specs.FinMap.{entries, find}
 use Rattle.std.specs.List.{cons_option, filter, filter_map, list_any}
 use Rattle.host_calls.specs.declared.damage.Damage.{Damage}
-use Rattle.host_calls.specs.Folder.{Files, name_cmp}
+use Rattle.host_calls.specs.Directory.{Files, name_cmp}
 use Rattle.job_script.specs.HeaderIn.{header_in}
 use Rattle.sequence_file.specs.LastNumber.{last_in}
 use Rattle.sequence_file.specs.Sequence.{sequence_file}
@@ -32,7 +32,7 @@ first_files before (file ∷ later) =
 abbrev pub files_taken : List Mark → List (List ℕ × List ℕ) → List JobFile
 files_taken marks files = first_files [] (filter has_header (job_files marks files))
 
--- the greatest number that may stand in the folder: the last one, where the sequence file gives it, else any
+-- the greatest number that may be in the directory: the last one, where the sequence file gives it, else any
 abbrev pub bound_by : Result ℕ Damage → ℕ
 bound_by (Ok last) = last
 bound_by (Err damage) = LAST_NUMBER
@@ -63,10 +63,10 @@ faults_after last journal files =
     sequence_faults last
     ++ (journal_faults (bound_by last) journal ++ jobs_faults (bound_by last) (marks_taken journal) (taken_of journal) files)
 
--- the faults of files that stand in byte order of their names
+-- the faults of files that are in byte order of their names
 abbrev pub all_faults : List (List ℕ × List ℕ) → List Damage
 all_faults files = faults_after (last_in (find name_cmp sequence_file files)) (find name_cmp journal_file files) files
 
--- the faults of a folder
+-- the faults of a directory
 unfoldable pub faults_of : Files → List Damage
 faults_of files = all_faults (entries files)

@@ -1,8 +1,8 @@
--- What holds of every folder.
+-- What holds of every directory.
 use Rattle.std.specs.Prelude.{◌≡◌, [], ◌∷◌, ℕ, ℤ, true, false, List, Option, Result, Ok, Err, Contains}
 use Rattle.std.specs.FinMap as map
 use Rattle.host_calls.specs.declared.damage.Damage.{Damage}
-use Rattle.host_calls.specs.Folder.{Files}
+use Rattle.host_calls.specs.Directory.{Files}
 use Rattle.spool_faults.specs.Faults.{faults_of}
 use Rattle.spool_faults.specs.Salvaged.{loses_marks_of, marks_of_salvage, salvaged}
 use Rattle.spool_faults.specs.Salvages.{IsSalvageOf}
@@ -18,7 +18,7 @@ abbrev pub unless_faulty : {X : Type 0} → List Damage → X → Result X Damag
 unless_faulty [] value = Ok value
 unless_faulty (fault ∷ later) value = Err fault
 
--- A folder shows its first fault, and where it has none the table that is saved of it.
+-- A directory shows its first fault, and where it has none the table that is saved of it.
 abbrev pub DamageIsTheFirstFault : Type 0
 DamageIsTheFirstFault = (files : Files) → shown_by files ≡ unless_faulty (faults_of files) (salvaged files)
 
@@ -33,15 +33,15 @@ LostMarksLeaveNoJobPending = (files : Files) (number : ℕ) →
     loses_marks_of files ≡ true → has_mark_of number (marks_taken (map.get files journal_file)) ≡ false
     → ¬ (IsPending (salvaged files) number)
 
--- The folder has no fault exactly where it shows a table, and that table is then the one that is saved.
+-- The directory has no fault exactly where it shows a table, and that table is then the one that is saved.
 pub record IsSavedWhole (files : Files) : Type 0 where
   pub shown : faults_of files ≡ [] → Shows files (salvaged files)
   pub none : (table : JobTable) → Shows files table → faults_of files ≡ []
   pub saved : (table : JobTable) → Shows files table → table ≡ salvaged files
 
--- so it is with every folder
-abbrev pub FaultlessFoldersAreSavedWhole : Type 0
-FaultlessFoldersAreSavedWhole = (files : Files) → IsSavedWhole files
+-- so it is with every directory
+abbrev pub FaultlessDirectoriesAreSavedWhole : Type 0
+FaultlessDirectoriesAreSavedWhole = (files : Files) → IsSavedWhole files
 
 -- the marks that are taken of a journal, whatever its faults, are legal, and each of them can be written
 abbrev pub TakenMarksAreSound : Type 0
@@ -51,7 +51,7 @@ TakenMarksAreSound = (content : Option (List ℕ)) → are_sound (marks_taken co
 abbrev pub SalvagedMarksAreSound : Type 0
 SalvagedMarksAreSound = (files : Files) → are_sound (marks_of_salvage files) ≡ true
 
--- a folder that was written from what is saved of another shows the table that is saved
+-- a directory that was written from what is saved of another shows the table that is saved
 abbrev pub SalvagesShowWhatIsTaken : Type 0
 SalvagesShowWhatIsTaken = (files salvage : Files) → IsSalvageOf files salvage → Shows salvage (salvaged files)
 

@@ -1,6 +1,6 @@
--- What is to be written for what is saved of a folder (own).
+-- What is to be written for what is saved of a directory (own).
 use Rattle.std.specs.Prelude.{◌≡◌, ℕ, true, List, map}
-use Rattle.host_calls.specs.Folder.{Files}
+use Rattle.host_calls.specs.Directory.{Files}
 use Rattle.sequence_file.specs.Sequence.{SpellsIn}
 use Rattle.spool_faults.specs.Salvaged.{files_of_salvage, last_of_salvage, marks_of_salvage}
 use Rattle.spool_shows.specs.JobFiles.{JobFile}

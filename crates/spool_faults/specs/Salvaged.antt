@@ -1,10 +1,10 @@
--- What is saved of a spool folder (own): the marks and the files that are taken of it, what is added to the marks, and
--- the table that these make.
+-- What is saved of a spool directory (own): the marks and the files that are taken of it, what is added to the marks,
+-- and the table that these make.
 use Rattle.std.specs.Prelude.{◌++◌, ◌&&◌, ◌||◌, [], ◌∷◌, ℕ, Bool, true, false, not, List, Option, None, Result, Ok, Err, is_some, map, nat_lt, option_map, if◌then◌else◌}
 use Rattle.std.specs.FinMap.{entries, find}
 use Rattle.std.specs.List.{filter, filter_map, list_any}
 use Rattle.host_calls.specs.declared.damage.Damage.{Damage}
-use Rattle.host_calls.specs.Folder.{Files, name_cmp}
+use Rattle.host_calls.specs.Directory.{Files, name_cmp}
 use Rattle.job_name.specs.JobName.{NamedJob, job_named}
 use Rattle.sequence_file.specs.LastNumber.{last_in}
 use Rattle.sequence_file.specs.Sequence.{sequence_file}
@@ -19,7 +19,7 @@ use Rattle.start_journal.specs.Journals.{journal_file}
 use Rattle.start_journal.specs.Marks.{is_decided, has_mark_of, number_of_mark}
 use Rattle.start_journal.specs.Taken.{journal_faults, marks_taken}
 
--- a start is given up that is not decided, and whose number has no file that is taken, or one of another queue
+-- a start is given up that is not finished, and whose number has no file that is taken, or one of another queue
 abbrev pub given_up : List Mark → List JobFile → Mark → Option Mark
 given_up marks files (Started number queue second) =
     option_map (λ damage. Interrupted number) (mark_damage marks files 0 (Started number queue second))
@@ -43,9 +43,9 @@ is_faulty [] = false
 is_faulty (fault ∷ later) = true
 
 -- the last number that the sequence file gives, 0 where it gives none
-abbrev pub last_told : Result ℕ Damage → ℕ
-last_told (Ok last) = last
-last_told (Err damage) = 0
+abbrev pub last_or_zero : Result ℕ Damage → ℕ
+last_or_zero (Ok last) = last
+last_or_zero (Err damage) = 0
 
 -- A start is an orphan where its number is above the last one, no mark decides it, and no file that is taken has it: one
 -- changed digit makes such a mark of the start of another job.
@@ -58,9 +58,9 @@ is_orphan last marks files _ = false
 abbrev pub loses_marks : Result ℕ Damage → Option (List ℕ) → List JobFile → Bool
 loses_marks last journal files =
     is_faulty (journal_faults LAST_NUMBER journal)
-    || list_any (is_orphan (last_told last) (marks_taken journal) files) (marks_taken journal)
+    || list_any (is_orphan (last_or_zero last) (marks_taken journal) files) (marks_taken journal)
 
--- Where a mark may be lost, a job that no mark names is taken back, since it may have run.
+-- Where a mark may be lost, a job that no mark names is removed, since it may have run.
 abbrev pub taken_back : List Mark → List JobFile → Bool → List Mark
 taken_back marks files false = []
 taken_back marks files true = map removal_mark (filter (is_unnamed marks) files)
@@ -75,7 +75,7 @@ saved_marks last journal files =
     marks_with (marks_taken journal) (files_taken (marks_taken journal) files)
     (loses_marks last journal (files_taken (marks_taken journal) files))
 
--- the file's number is not decided
+-- the file's number is not finished
 abbrev pub is_left : List Mark → JobFile → Bool
 is_left marks file = not (is_decided file.job.number marks)
 
@@ -99,18 +99,18 @@ name_numbers files = filter_map (λ (file : List ℕ × List ℕ). number_named 
 -- the number that counts as drawn last: the greatest of the sequence file, the marks that are taken and the names
 abbrev pub saved_last : Result ℕ Damage → Option (List ℕ) → List (List ℕ × List ℕ) → ℕ
 saved_last last journal files =
-    greatest (greatest (last_told last) (filter_map number_of_mark (marks_taken journal))) (name_numbers files)
+    greatest (greatest (last_or_zero last) (filter_map number_of_mark (marks_taken journal))) (name_numbers files)
 
 -- the table that is saved
 abbrev pub saved_after : Result ℕ Damage → Option (List ℕ) → List (List ℕ × List ℕ) → JobTable
 saved_after last journal files =
     table_shown (saved_last last journal files) (saved_marks last journal files) (saved_files last journal files)
 
--- that of files that stand in byte order of their names
+-- that of files that are in byte order of their names
 abbrev pub all_saved : List (List ℕ × List ℕ) → JobTable
 all_saved files = saved_after (last_in (find name_cmp sequence_file files)) (find name_cmp journal_file files) files
 
--- the table that is saved of a folder
+-- the table that is saved of a directory
 unfoldable pub salvaged : Files → JobTable
 salvaged files = all_saved (entries files)
 
@@ -127,7 +127,7 @@ abbrev pub files_of_salvage : Files → List JobFile
 files_of_salvage files =
     saved_files (last_in (find name_cmp sequence_file (entries files))) (find name_cmp journal_file (entries files)) (entries files)
 
--- a mark of the folder's journal may be lost
+-- a mark of the directory's journal may be lost
 abbrev pub loses_marks_of : Files → Bool
 loses_marks_of files =
     loses_marks (last_in (find name_cmp sequence_file (entries files))) (find name_cmp journal_file (entries files))

@@ -1,7 +1,7 @@
--- A folder that was written from what is saved of another (own).
+-- A directory that was written from what is saved of another (own).
 use Rattle.std.specs.Prelude.{◌≡◌, ℕ, List, Ok, Some, map}
 use Rattle.std.specs.FinMap as finite
-use Rattle.host_calls.specs.Folder.{Files, name_cmp}
+use Rattle.host_calls.specs.Directory.{Files, name_cmp}
 use Rattle.job_name.specs.JobName.{NamedJob, job_named}
 use Rattle.sequence_file.specs.LastNumber.{last_in}
 use Rattle.sequence_file.specs.Sequence.{sequence_file}
@@ -13,8 +13,8 @@ use Rattle.start_journal.specs.Journals.{GivesMarks, journal_file}
 abbrev pub named_bytes : JobFile → List ℕ × List ℕ
 named_bytes file = (file.name, file.bytes)
 
--- The folder has the number and the marks that are saved of the files, and of files of jobs those that are saved, each
--- with its own bytes.
+-- The directory has the number and the marks that are saved of the files, and of files of jobs those that are saved,
+-- each with its own bytes.
 pub record IsSalvageOf (files salvage : Files) : Type 0 where
   pub number : last_in (finite.get salvage sequence_file) ≡ Ok (last_of_salvage files)
   pub free : ℕ

@@ -1,3 +1,3 @@
-pub mod Finding
-pub mod Looking
-pub mod Saving
+pub mod FoundFiles
+pub mod ScanResult
+pub mod SavedParts

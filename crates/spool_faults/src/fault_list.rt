@@ -1,10 +1,11 @@
-//! All faults of a spool folder.
+//! All faults of a spool directory.
 ghost use Rattle.std.specs.Prelude.{◌≡◌};
 
 use host_calls::Damage;
 use std::marker::Model;
 
-/// The faults of a folder, in the order in which recovery looks for the first of them. A contract sees them as a list.
+/// The faults of a directory, in the order in which recovery looks for the first of them. A contract sees them as a
+/// list.
 #[derive(Drop)]
 pub struct FaultList {
     pub(crate) faults: Vec<Damage>,

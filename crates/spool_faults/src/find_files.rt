@@ -7,7 +7,7 @@ ghost use Rattle.host_calls.specs.Session.{CallsInside, IsInside};
 ghost use Rattle.host_calls.specs.World.{reading};
 ghost use Rattle.job_name.specs.JobName.{job_named};
 ghost use Rattle.job_script.specs.declared.headers.TheConstants.{MAX_HEADER};
-ghost use Rattle.spool_faults.specs.inside.Finding.{AreDecidedNumbers, IsCountedName, file_found, files_found, job_of_name, prefix_of};
+ghost use Rattle.spool_faults.specs.inside.FoundFiles.{AreDecidedNumbers, IsCountedName, file_found, files_found, job_of_name, prefix_of};
 ghost use Rattle.spool_shows.specs.JobFiles.{job_files};
 ghost use Rattle.start_journal.specs.declared.mark.Mark.{Mark};
 ghost use Rattle.start_journal.specs.Marks.{decides};
@@ -44,7 +44,7 @@ fn note_decided(decided: &mut BTreeSet<u32>, mark: Mark) -> Result<(), AllocErro
     Ok(())
 }
 
-// The files of jobs whose numbers are not decided, among the names of all files.
+// The files of jobs whose numbers are not finished, among the names of all files.
 pub(crate) fn find_files<H: Host>(
     alloc: Global,
     host: &mut H,
@@ -100,7 +100,7 @@ fn keep_file(found: &mut Vec<FoundFile>, one: FoundFile) -> Result<(), AllocErro
     Ok(())
 }
 
-// The job of the name, if it is that of one whose number is not decided.
+// The job of the name, if it is that of one whose number is not finished.
 fn counted_job(decided: &BTreeSet<u32>, name: Name) -> Option<JobName>
     ensures { (marks : List Mark) → AreDecidedNumbers marks decided.now → IsCountedName marks name result }
 {

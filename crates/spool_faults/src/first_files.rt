@@ -2,7 +2,7 @@
 ghost use Rattle.std.specs.Prelude.{◌++◌, [], ◌∷◌, List, IfOk, OnOk};
 ghost use Rattle.std.specs.List.{filter};
 ghost use Rattle.spool_faults.specs.Faults.{has_header};
-ghost use Rattle.spool_faults.specs.inside.Finding.{AreFirstFiles, file_found, files_found};
+ghost use Rattle.spool_faults.specs.inside.FoundFiles.{AreFirstFiles, file_found, files_found};
 ghost use Rattle.spool_shows.specs.JobFiles.{JobFile};
 
 use crate::found_file::FoundFile;

@@ -1,7 +1,7 @@
 //! A job's file as it was found.
 ghost use Rattle.std.specs.Prelude.{◌≡◌, ℕ, List, IfSome};
 ghost use Rattle.job_script.specs.HeaderIn.{header_in};
-ghost use Rattle.spool_faults.specs.inside.Finding.{HasNumbers, file_found};
+ghost use Rattle.spool_faults.specs.inside.FoundFiles.{HasNumbers, file_found};
 ghost use Rattle.spool_shows.specs.JobFiles.{damage_of, file_place, header_fault_in};
 
 use host_calls::{Bytes, Damage, Name};

@@ -4,7 +4,7 @@ ghost use Rattle.std.specs.BTreeMap as tree;
 ghost use Rattle.std.specs.BTreeSet.{contains};
 ghost use Rattle.std.specs.Ordering.{nat_cmp};
 ghost use Rattle.spool_faults.specs.Faults.{files_faults, starts_faults};
-ghost use Rattle.spool_faults.specs.inside.Finding.{AreDecidedNumbers, AreQueues, HasNumbers, files_found};
+ghost use Rattle.spool_faults.specs.inside.FoundFiles.{AreDecidedNumbers, AreQueues, HasNumbers, files_found};
 ghost use Rattle.spool_shows.specs.JobFiles.{JobFile};
 ghost use Rattle.spool_shows.specs.Shown.{mark_damage, start_damage};
 ghost use Rattle.start_journal.specs.declared.mark.Mark.{Mark};

@@ -1,17 +1,17 @@
-//! What holds of every folder, each law as the contract of a function.
-ghost use Rattle.spool_faults.specs.Examples.{SmallFoldersAreSalvaged, SmallFoldersHaveFaults};
-ghost use Rattle.spool_faults.specs.Laws.{DamageIsTheFirstFault, FaultlessFoldersAreSavedWhole, LostMarksLeaveNoJobPending, SalvagedMarksAreSound, SalvagesAreSavedAlike, SalvagesHaveNoFault, SalvagesShowWhatIsTaken, StartsAreNotPending, TakenMarksAreSound};
+//! What holds of every directory, each law as the contract of a function.
+ghost use Rattle.spool_faults.specs.Examples.{SmallDirectoriesAreSalvaged, SmallDirectoriesHaveFaults};
+ghost use Rattle.spool_faults.specs.Laws.{DamageIsTheFirstFault, FaultlessDirectoriesAreSavedWhole, LostMarksLeaveNoJobPending, SalvagedMarksAreSound, SalvagesAreSavedAlike, SalvagesHaveNoFault, SalvagesShowWhatIsTaken, StartsAreNotPending, TakenMarksAreSound};
 
-/// The faults of small folders and what is saved of them, computed.
-pub fn small_folder_faults()
-    ensures faults { SmallFoldersHaveFaults }
-    ensures salvaged { SmallFoldersAreSalvaged }
+/// The faults of small directories and what is saved of them, computed.
+pub fn small_directory_faults()
+    ensures faults { SmallDirectoriesHaveFaults }
+    ensures salvaged { SmallDirectoriesAreSalvaged }
 {}
 
-/// A folder shows its first fault; without one it shows the table that is saved of it.
+/// A directory shows its first fault; without one it shows the table that is saved of it.
 pub fn damage_is_the_first_fault()
     ensures first { DamageIsTheFirstFault }
-    ensures whole { FaultlessFoldersAreSavedWhole }
+    ensures whole { FaultlessDirectoriesAreSavedWhole }
 {}
 
 /// A number that a mark of the journal starts is not pending in the table that is saved.
@@ -29,13 +29,13 @@ pub fn taken_marks_are_sound()
     ensures { TakenMarksAreSound }
 {}
 
-/// The marks that are saved of a folder are legal and can be written, so they can be placed.
+/// The marks that are saved of a directory are legal and can be written, so they can be placed.
 pub fn salvaged_marks_are_sound()
     ensures { SalvagedMarksAreSound }
 {}
 
-/// A folder that was written from what is saved of another shows the table that is saved, without a fault, and the same
-/// is saved of it again.
+/// A directory that was written from what is saved of another shows the table that is saved, without a fault, and the
+/// same is saved of it again.
 pub fn salvages_show_what_is_taken()
     ensures shown { SalvagesShowWhatIsTaken }
     ensures faultless { SalvagesHaveNoFault }

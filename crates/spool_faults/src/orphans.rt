@@ -2,7 +2,7 @@
 ghost use Rattle.std.specs.Prelude.{◌≡◌, List};
 ghost use Rattle.std.specs.List.{list_any};
 ghost use Rattle.spool_faults.specs.Salvaged.{is_orphan};
-ghost use Rattle.spool_faults.specs.inside.Finding.{AreDecidedNumbers, AreQueues};
+ghost use Rattle.spool_faults.specs.inside.FoundFiles.{AreDecidedNumbers, AreQueues};
 ghost use Rattle.spool_shows.specs.JobFiles.{JobFile};
 ghost use Rattle.start_journal.specs.declared.mark.Mark.{Mark};
 

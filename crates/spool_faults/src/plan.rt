@@ -1,15 +1,15 @@
-//! What is to be written for what is saved of a folder.
+//! What is to be written for what is saved of a directory.
 ghost use Rattle.std.specs.Prelude.{◌≡◌, ◌++◌, true, IfOk, OnOk, option_to_list};
 ghost use Rattle.std.specs.FinMap as finite;
 ghost use Rattle.std.specs.List.{filter_map};
-ghost use Rattle.host_calls.specs.Folder.{Files};
+ghost use Rattle.host_calls.specs.Directory.{Files};
 ghost use Rattle.sequence_file.specs.Sequence.{SpellsIn};
 ghost use Rattle.spool_faults.specs.Faults.{faults_of, files_taken};
 ghost use Rattle.spool_faults.specs.Plan.{IsPlanOf};
-ghost use Rattle.spool_faults.specs.Salvaged.{greatest, is_faulty, last_told, loses_marks, number_named};
-ghost use Rattle.spool_faults.specs.inside.Finding.{file_first};
-ghost use Rattle.spool_faults.specs.inside.Looking.{IsLook};
-ghost use Rattle.spool_faults.specs.inside.Saving.{name_unless};
+ghost use Rattle.spool_faults.specs.Salvaged.{greatest, is_faulty, last_or_zero, loses_marks, number_named};
+ghost use Rattle.spool_faults.specs.inside.FoundFiles.{file_first};
+ghost use Rattle.spool_faults.specs.inside.ScanResult.{IsSpoolScan};
+ghost use Rattle.spool_faults.specs.inside.SavedParts.{name_unless};
 ghost use Rattle.spool_model.specs.declared.number.TheConstants.{LAST_NUMBER};
 ghost use Rattle.start_journal.specs.Journals.{AreWritable};
 ghost use Rattle.start_journal.specs.Marks.{number_of_mark};
@@ -17,9 +17,9 @@ ghost use Rattle.start_journal.specs.Taken.{journal_faults};
 
 use crate::find_files::decided;
 use crate::first_files::FirstFile;
-use crate::look::Look;
 use crate::orphans::has_orphan;
 use crate::saved_marks::saved_marks;
+use crate::scan::SpoolScan;
 use host_calls::{Bytes, Damage, Name};
 use job_name::JobName;
 use sequence_file::sequence_file_text;
@@ -31,8 +31,8 @@ use std::collections::BTreeSet;
 // How many free slots the journal has that is written.
 const FREE_SLOTS: u64 = 256;
 
-/// What is to be written for what is saved of a folder: the names of the files that are copied, the journal, and the
-/// sequence file.
+/// What is to be written for what is saved of a directory: the names of the files that are copied, the journal, and
+/// the sequence file.
 #[derive(Drop)]
 pub struct SalvagePlan {
     pub names: Vec<Name>,
@@ -40,28 +40,28 @@ pub struct SalvagePlan {
     pub sequence: Vec<u8>,
 }
 
-// The plan, by one look at the folder, which has these faults.
+// The plan, by one look at the directory, which has these faults.
 pub(crate) fn plan_of(
     alloc: Global,
-    look: &Look,
+    scan: &SpoolScan,
     faults: &[Damage],
 ) -> Result<SalvagePlan, AllocError>
-    requires { AreWritable look.now.marks.items }
-    ensures { (files : Files) → IsLook files look.now → faults.now ≡ faults_of files
+    requires { AreWritable scan.now.marks.items }
+    ensures { (files : Files) → IsSpoolScan files scan.now → faults.now ≡ faults_of files
         → IfOk result (λ plan. IsPlanOf files plan.names.items plan.journal.items plan.sequence.items) }
 {
-    let lost = loses_marks(alloc, look, faults)?;
+    let lost = loses_marks(alloc, scan, faults)?;
     let marks = saved_marks(
         alloc,
-        look.marks.as_slice(),
-        &look.decided,
-        &look.firsts,
+        scan.marks.as_slice(),
+        &scan.decided,
+        &scan.firsts,
         lost,
     )?;
     let decided = decided(alloc, marks.as_slice())?;
-    let names = names_left(alloc, look.firsts.files.as_slice(), &decided)?;
+    let names = names_left(alloc, scan.firsts.files.as_slice(), &decided)?;
     let journal = journal_text(alloc, marks.as_slice(), FREE_SLOTS)?;
-    let last = saved_last(&look.number, look.marks.as_slice(), look.names.as_slice());
+    let last = saved_last(&scan.number, scan.marks.as_slice(), scan.names.as_slice());
     let sequence = sequence_text(alloc, last)?;
     Ok(SalvagePlan {
         names,
@@ -70,21 +70,21 @@ pub(crate) fn plan_of(
     })
 }
 
-// Whether a mark of the journal may be lost. None is where the folder has no fault.
-fn loses_marks(alloc: Global, look: &Look, faults: &[Damage]) -> Result<bool, AllocError>
-    ensures { (files : Files) → IsLook files look.now → faults.now ≡ faults_of files
-        → IfOk result (λ lost. lost ≡ loses_marks look.now.number look.now.journal
-        (files_taken look.now.marks.items (finite.entries files))) }
+// Whether a mark of the journal may be lost. None is where the directory has no fault.
+fn loses_marks(alloc: Global, scan: &SpoolScan, faults: &[Damage]) -> Result<bool, AllocError>
+    ensures { (files : Files) → IsSpoolScan files scan.now → faults.now ≡ faults_of files
+        → IfOk result (λ lost. lost ≡ loses_marks scan.now.number scan.now.journal
+        (files_taken scan.now.marks.items (finite.entries files))) }
 {
     if faults.is_empty() {
         return Ok(false);
     }
-    let faulty = is_faulty(alloc, &look.journal)?;
+    let faulty = is_faulty(alloc, &scan.journal)?;
     let orphan = has_orphan(
-        last_told(&look.number),
-        look.marks.as_slice(),
-        &look.decided,
-        &look.firsts.queues,
+        last_or_zero(&scan.number),
+        scan.marks.as_slice(),
+        &scan.decided,
+        &scan.firsts.queues,
     );
     Ok(faulty || orphan)
 }
@@ -102,7 +102,7 @@ fn is_faulty(alloc: Global, journal: &Option<Bytes>) -> Result<bool, AllocError>
     }
 }
 
-// The names of the files whose numbers are not decided.
+// The names of the files whose numbers are not finished.
 fn names_left(
     alloc: Global,
     files: &[FirstFile],
@@ -130,14 +130,14 @@ fn leave(names: &mut Vec<Name>, file: FirstFile, decided: &BTreeSet<u32>) -> Res
 
 // The number that counts as drawn last.
 fn saved_last(number: &Result<u32, Damage>, marks: &[Mark], names: &[Name]) -> u32
-    ensures { result ≡ greatest (greatest (last_told number.now) (filter_map number_of_mark marks.now))
+    ensures { result ≡ greatest (greatest (last_or_zero number.now) (filter_map number_of_mark marks.now))
         (filter_map number_named names.now) }
 {
-    greatest_name(greatest_mark(last_told(number), marks), names)
+    greatest_name(greatest_mark(last_or_zero(number), marks), names)
 }
 
-fn last_told(number: &Result<u32, Damage>) -> u32
-    ensures { result ≡ last_told number.now }
+fn last_or_zero(number: &Result<u32, Damage>) -> u32
+    ensures { result ≡ last_or_zero number.now }
 {
     match number {
         Ok(last) => *last,

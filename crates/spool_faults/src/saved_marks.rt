@@ -5,8 +5,8 @@ ghost use Rattle.std.specs.List.{filter_map};
 ghost use Rattle.std.specs.Ordering.{nat_cmp};
 ghost use Rattle.spool_faults.specs.Faults.{first_files};
 ghost use Rattle.spool_faults.specs.Salvaged.{given_up, marks_with};
-ghost use Rattle.spool_faults.specs.inside.Finding.{AreDecidedNumbers, AreFirstFiles, AreQueues, file_first};
-ghost use Rattle.spool_faults.specs.inside.Saving.{AreNamedNumbers, removal_unless};
+ghost use Rattle.spool_faults.specs.inside.FoundFiles.{AreDecidedNumbers, AreFirstFiles, AreQueues, file_first};
+ghost use Rattle.spool_faults.specs.inside.SavedParts.{AreNamedNumbers, removal_unless};
 ghost use Rattle.spool_shows.specs.JobFiles.{JobFile};
 ghost use Rattle.start_journal.specs.declared.mark.Mark.{Mark};
 ghost use Rattle.start_journal.specs.Journals.{AreWritable};
@@ -20,7 +20,7 @@ use std::alloc::{AllocError, Global};
 use std::collections::{BTreeMap, BTreeSet};
 
 // The marks that are saved, where these are taken of the journal: each start that is given up ends, and where marks
-// may be lost, each job that none names is taken back.
+// may be lost, each job that none names is removed.
 pub(crate) fn saved_marks(
     alloc: Global,
     marks: &[Mark],
@@ -82,7 +82,7 @@ fn given_up(mark: Mark, decided: &BTreeSet<u32>, queues: &BTreeMap<u32, u8>) -> 
     }
 }
 
-// Takes back each job that no mark names.
+// Removes each job that no mark names.
 fn remove_unnamed(
     files: &[FirstFile],
     named: &BTreeSet<u32>,

@@ -44,7 +44,7 @@ module _ {X : Type 0} where
       ∙ ap (λ b. cond b None (held old other)) ((eq_by_cmp_equiv nat_cmp_total).symm number other)
       ∙ sym (get-remove nat_cmp_total (from_entries old) number other ∙ ap (cond (eq_by_cmp nat_cmp other number) None) (get-from_map old other)))
 
--- the entries after the one under a number, which is there, is in another state
+-- the entries after the one under a number, which exists, is in another state
 pub from_map-with_state : (old new : List (ℕ × JobEntry)) (number : ℕ) (state : JobState) (before after : JobEntry) → Some before ≡ held old number → after ≡ in_state state before → ((other : ℕ) → held new other ≡ cond (is_at (nat_cmp number) other) (Some after) (held old other)) → from_entries {R = nat_cmp} new ≡ with_state number state (finite.get (from_entries {R = nat_cmp} old) number) (from_entries old)
 from_map-with_state old new number state before after was is updates =
     from_map-put old new number after (in_state state before) is updates

@@ -34,7 +34,7 @@ abbrev pub StepsKeepTheTableSound : Type 0
 StepsKeepTheTableSound = (table : JobTable) (steps : List Step) → IsSound table → AreLegal table steps →
     IsSound (after_steps table steps)
 
--- the prefix of legal steps is legal, and what stands after it is legal on the table after it
+-- the prefix of legal steps is legal, and what is after it is legal on the table after it
 pub record PrefixAndRest (table : JobTable) (prefix after : List Step) : Type 0 where
   pub prefix_legal : AreLegal table prefix
   pub rest_legal : AreLegal (after_steps table prefix) after

@@ -8,11 +8,11 @@ abbrev pub is_user_byte : ℕ → Bool
 is_user_byte byte =
     is_ascii_alphanumeric byte || byte == 46 || byte == 95 || byte == 45 || byte == 36 || byte == 43 || byte == 64
 
--- each byte may stand in a user's name
+-- each byte may be in a user's name
 abbrev pub are_user_bytes : List ℕ → Bool
 are_user_bytes bytes = list_all is_user_byte bytes
 
--- the bytes are a user's name: 1 to 32 bytes that may stand in one, the first of them not -
+-- the bytes are a user's name: 1 to 32 bytes that may be in one, the first of them not -
 pub record IsUserName (bytes : List ℕ) : Type 0 where
   pub some : 1 ≤ length bytes
   pub few : length bytes ≤ 32

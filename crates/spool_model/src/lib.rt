@@ -1,7 +1,7 @@
 //! The job table: its steps, lists and laws, and the steps that a turn reports. No legal step leads back to pending; a
 //! number is accepted once, directly after its draw.
 //!
-//! It knows nothing of files. The spool folder shows such a table, and every command is a list of such steps.
+//! It knows nothing of files. The spool directory shows such a table, and every command is a list of such steps.
 #![tactic(auto)]
 
 mod decided;

@@ -9,7 +9,7 @@ pub enum Step {
     Draw,
     /// The job is accepted under the number that was drawn.
     Accept(u32, Job),
-    /// The pending job is taken back.
+    /// The pending job is removed.
     Remove(u32),
     /// The pending job is started at this second.
     Start(u32, i64),

@@ -8,7 +8,7 @@ use host_calls::Ending;
 /// A step that a turn made.
 #[derive(Clone, Copy, Debug, PartialEq, Eq)]
 pub enum TurnStep {
-    /// The job was started at this second, and its script handed over.
+    /// The job was started at this second, and its script started.
     HandedOver(u32, i64),
     /// The job ended so.
     Ended(u32, Ending),

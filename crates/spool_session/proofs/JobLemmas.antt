@@ -1,4 +1,4 @@
--- Which jobs the user may ask for.
+-- Which jobs the user may request.
 use Rattle.std.proofs.Common.{◌≡◌, ◌<◌, ◌+◌, Bool, List, ◌∷◌, ℕ, length, drop, get_or, sym, ap, ◌∙◌, refl, add-one}
 use Rattle.std.proofs.Math.Seq.{drop-cons}
 use Rattle.std.specs.Prelude.{Option, Some, None, is_some, true}

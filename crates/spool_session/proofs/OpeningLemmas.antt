@@ -14,8 +14,8 @@ use Rattle.host_calls.specs.declared.fault.HostFault.TheVariants as host
 use Rattle.host_calls.specs.declared.store_fault.StoreFault.{StoreFault}
 use Rattle.host_calls.specs.declared.store_fault.StoreFault.TheVariants as store
 use Rattle.host_calls.specs.StoreFaults.{IsReadingFault}
-use Rattle.spool_store.specs.Recovering.{IsRecovered, Recovered}
-use Rattle.cause_output.specs.Causes.{cause_of, cause_of_host}
+use Rattle.spool_store.specs.Recovery.{IsRecovered, Recovered}
+use Rattle.tool_output.specs.Causes.{cause_of, cause_of_host}
 use Rattle.command_rules.specs.Sessions.{AreListsIn, IsNotOpened, IsStoreOpened, faults, lists_lack_memory, is_damaged, lacks_memory, lists_fault}
 
 -- a list could not be read
@@ -27,12 +27,12 @@ lists_unread tells user old new host.Memory same = lists_lack_memory same
 module _ (tells : Bool) (user : List ℕ) (allow deny : Option (List ℕ)) (old middle new : World)
     (permits : may_use user allow deny ≡ true) (looks : tells ≡ true → middle ≡ old)
     (lists : tells ≡ true → AreListsIn (reading old) allow deny)
-    (changes : tells ≡ true → ChangesFiles (ShowsAsBefore middle.now.folder) middle new) where
-  changed : tells ≡ true → ChangesFiles (ShowsAsBefore old.now.folder) old new
-  changed known = subst (λ (from : World). ChangesFiles (ShowsAsBefore from.now.folder) from new) (looks known) (changes known)
+    (changes : tells ≡ true → ChangesFiles (ShowsAsBefore middle.now.directory) middle new) where
+  changed : tells ≡ true → ChangesFiles (ShowsAsBefore old.now.directory) old new
+  changed known = subst (λ (from : World). ChangesFiles (ShowsAsBefore from.now.directory) from new) (looks known) (changes known)
 
   -- no store was recovered
-  pub unrecovered : (fault : StoreFault) → IsReadingFault fault → (tells ≡ true → Recovered middle.now.folder new.now.folder (Err fault)) →
+  pub unrecovered : (fault : StoreFault) → IsReadingFault fault → (tells ≡ true → Recovered middle.now.directory new.now.directory (Err fault)) →
       (tells ≡ true → IfDamaged {T = Kept} store.Damaged (λ damage. reading new ≡ reading middle) (Err fault)) →
       IsNotOpened tells user old new (cause_of fault)
   unrecovered store.FileFault of_reading recovered untouched = faults allow deny permits lists (λ known. recoveries_begin_nothing old new (changed known))
@@ -48,11 +48,11 @@ module _ (tells : Bool) (user : List ℕ) (allow deny : Option (List ℕ)) (old 
 -- the store was recovered: its table is the one that the reading showed, or, where no files are told, the one that is kept
 pub store_opened : (tells : Bool) (user : List ℕ) (allow deny : Option (List ℕ)) (old middle new : World) (kept : Kept) →
     may_use user allow deny ≡ true → (tells ≡ true → middle ≡ old) → (tells ≡ true → AreListsIn (reading old) allow deny) →
-    (tells ≡ true → ChangesFiles (ShowsAsBefore middle.now.folder) middle new) →
-    (tells ≡ true → IsRecovered middle.now.folder new.now.folder kept) → IsStoreOpened tells user old new kept
+    (tells ≡ true → ChangesFiles (ShowsAsBefore middle.now.directory) middle new) →
+    (tells ≡ true → IsRecovered middle.now.directory new.now.directory kept) → IsStoreOpened tells user old new kept
 store_opened true user allow deny old middle new kept permits looks lists changes recovered =
-    let is : IsRecovered old.now.folder new.now.folder kept =
-    subst (λ (from : World). IsRecovered from.now.folder new.now.folder kept) (looks refl) (recovered refl) in
+    let is : IsRecovered old.now.directory new.now.directory kept =
+    subst (λ (from : World). IsRecovered from.now.directory new.now.directory kept) (looks refl) (recovered refl) in
     record {
       allow = allow;
       deny = deny;
@@ -62,7 +62,7 @@ store_opened true user allow deny old middle new kept permits looks lists change
       lists = lists;
       recovered = λ known. record {
         shown = is.shown;
-        changes = subst (λ (from : World). ChangesFiles (ShowsAsBefore from.now.folder) from new) (looks refl) (changes refl);
+        changes = subst (λ (from : World). ChangesFiles (ShowsAsBefore from.now.directory) from new) (looks refl) (changes refl);
         others = is.others;
         current = is.current;
       };

@@ -6,12 +6,12 @@ use Rattle.host_calls.specs.Causes.{Rose}
 use Rattle.host_calls.specs.declared.fault.EnterFault.{EnterFault}
 use Rattle.host_calls.specs.declared.fault.EnterFault.TheVariants.{Failed, Memory as NoMemory, Taken}
 use Rattle.host_calls.specs.declared.host.Host.{Ghosts}
-use Rattle.host_session.proofs.SessionLemmas.{counts_on}
-use Rattle.host_session.specs.Work.{Calls, IsDoneInside, IsWorkUndone}
+use Rattle.host_calls.proofs.SessionLemmas.{counts_on}
+use Rattle.host_calls.specs.SessionWork.{Calls, IsDoneInside, IsWorkUndone}
 use Rattle.listing_text.specs.declared.cause.Cause.{Cause}
 use Rattle.listing_text.specs.declared.cause.Cause.TheVariants.{Done, Refused, FileFault, InputFault, Busy}
-use Rattle.cause_output.specs.Causes.{cause_in, cause_of_entry, error_of}
-use Rattle.cause_output.specs.declared.command_error.CommandError.{CommandError}
+use Rattle.tool_output.specs.Causes.{cause_in, cause_of_entry, error_of}
+use Rattle.tool_output.specs.declared.command_error.CommandError.{CommandError}
 use Rattle.command_rules.specs.Checks.{check_of, place_of_check}
 use Rattle.command_rules.specs.Ends.{StopsBeforeLock}
 use Rattle.host_calls.proofs.WorldLemmas.{goes_on_then}

@@ -1,5 +1,5 @@
 -- The lists of users, as they were read (own).
-use Rattle.host_calls.specs.Folder.{Files}
+use Rattle.host_calls.specs.Directory.{Files}
 use Rattle.command_rules.specs.Sessions.{AreListsIn}
 use Rattle.spool_session.specs.declared.lists.Lists.{Lists}
 

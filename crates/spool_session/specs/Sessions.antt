@@ -7,13 +7,13 @@ use Rattle.host_calls.specs.declared.fault.EnterFault.{EnterFault}
 use Rattle.host_calls.specs.declared.host.Host.{Ghosts}
 use Rattle.host_calls.specs.Session.{CallsInside, IsInside, IsLeft}
 use Rattle.host_calls.specs.World.{TimePasses}
-use Rattle.host_session.specs.Work.{Calls, IsDoneInside, IsWorkUndone}
+use Rattle.host_calls.specs.SessionWork.{Calls, IsDoneInside, IsWorkUndone}
 use Rattle.listing_text.specs.declared.cause.Cause.{Cause}
 use Rattle.listing_text.specs.declared.cause.Cause.TheVariants.{Refused, FileFault, OutputFault, Busy, Memory, Damaged}
-use Rattle.cause_output.specs.Causes.{cause_of_entry, error_of}
+use Rattle.tool_output.specs.Causes.{cause_of_entry, error_of}
 use Rattle.command_rules.specs.Checks.{check_of, is_earlier_check, of_lock}
 use Rattle.command_rules.specs.Ends.{StopsBeforeLock}
-use Rattle.cause_output.specs.declared.command_error.CommandError.{CommandError}
+use Rattle.tool_output.specs.declared.command_error.CommandError.{CommandError}
 
 -- a cause that comes within a session: the lock was had, and the inputs were read before
 abbrev pub IsOfSession : Cause → Type 0
@@ -32,7 +32,7 @@ ComesOfSession stopped = IsOfSession stopped.cause
 abbrev pub MayWorkInside : {H F T : Type 0} → Ghosts H → Calls H F T → F → Type 0
 MayWorkInside {H} g calls work = (at : MutBor H) → IsInside (g.session at.now) → Takes calls work (at, tt)
 
--- Work within a session: it stays in the session and starts no child, it hands nothing over, and each fault of a file comes
+-- Work within a session: it stays in the session and starts no child, it starts nothing, and each fault of a file comes
 -- only where their count rose.
 pub record WorksInside {H T : Type 0} (g : Ghosts H) (old new : H) (result : Result T CommandError) : Type 0 where
   pub inside : CallsInside (error_of FileFault) (g.session old) (g.session new) result
@@ -46,7 +46,7 @@ IsWork {H} {F} {T} g calls work =
     CalledAtMut calls work old result left new →
     WorksInside g old new result
 
--- no session is on, no child was started, and nothing was handed over
+-- no session is on, no child was started, and nothing was started
 pub record StaysQuiet {H : Type 0} (g : Ghosts H) (old new : H) : Type 0 where
   pub left : IsLeft (g.session old) (g.session new)
   pub goes_on : g.tells ≡ true → TimePasses (g.world old) (g.world new)

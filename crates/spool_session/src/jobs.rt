@@ -1,4 +1,4 @@
-//! Which jobs the user may ask for.
+//! Which jobs the user may request.
 ghost use Rattle.std.specs.Prelude.{◌≡◌};
 ghost use Rattle.spool_model.specs.Lists.{is_running};
 ghost use Rattle.listing_text.specs.Listing.{may_see};

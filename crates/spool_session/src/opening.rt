@@ -3,8 +3,8 @@ ghost use Rattle.std.specs.Prelude.{◌≡◌, IfErr, IfOk, IsTrue};
 ghost use Rattle.host_calls.specs.Session.{CallsInside, IsInside};
 ghost use Rattle.host_calls.specs.World.{TimePasses};
 ghost use Rattle.listing_text.specs.declared.cause.Cause.TheVariants as cause;
-ghost use Rattle.cause_output.specs.Causes.{error_of};
-ghost use Rattle.cause_output.specs.declared.command_error.CommandError.{CommandError as Stop};
+ghost use Rattle.tool_output.specs.Causes.{error_of};
+ghost use Rattle.tool_output.specs.declared.command_error.CommandError.{CommandError as Stop};
 ghost use Rattle.command_rules.specs.Sessions.{IsNotOpened, IsStoreOpened};
 
 use crate::lists::{are_permitting, read_lists};
@@ -32,7 +32,7 @@ pub fn open_store<H: Host>(
     if !are_permitting(&lists, user) {
         return Err(CommandError::refused(Refusal::NotAllowed));
     }
-    // A user who may not use `at` has nothing in the folder settled or cleared.
+    // A user who may not use `at` has nothing in the directory settled or cleared.
     let store = Store::recover(alloc, host)?;
     Ok(store)
 }

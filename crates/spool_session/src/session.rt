@@ -1,6 +1,6 @@
 //! The session of a command, round its work.
 ghost use Rattle.host_calls.specs.Session.{IsOutside};
-ghost use Rattle.cause_output.specs.Causes.{cause_in};
+ghost use Rattle.tool_output.specs.Causes.{cause_in};
 ghost use Rattle.spool_session.specs.Sessions.{EndsCommandSession, HasRisenIn, IsWork, MayWorkInside, StaysQuiet};
 
 use command_rules::CommandError;
@@ -21,6 +21,6 @@ pub fn in_command_session<H: Host, T, F: FnMut(&mut H) -> Result<T, CommandError
     ensures faults { HasRisenIn H.Host host.old host.new (cause_in result) }
     ensures ends { EndsCommandSession H.Host F.FnMut work.old work.new host.old host.new result }
 {
-    let answer = host_session::in_session(alloc, host, work)?;
+    let answer = host_calls::in_session(alloc, host, work)?;
     answer
 }

@@ -1,9 +1,9 @@
--- A folder in which a job was placed under the next number shows the table with that job.
+-- A directory in which a job was placed under the next number shows the table with that job.
 use Rattle.std.proofs.Common.{◌≡◌, ◌⊎◌, ◌≤◌, ◌+◌, ℕ, Bool, true, false, Some, List, [], ◌∷◌, sym, ap, subst, ◌∙◌, refl, arith, inl, inr}
 use Rattle.std.specs.Prelude.{IsSome, MatchBool}
 use Rattle.std.specs.FinMap as map
 use Rattle.std.proofs.lemmas.Bool.Decides.{eqb_tells}
-use Rattle.host_calls.specs.Folder.{Files}
+use Rattle.host_calls.specs.Directory.{Files}
 use Rattle.job_script.specs.HeaderIn.{header_in}
 use Rattle.sequence_file.specs.Sequence.{sequence_file}
 use Rattle.whole_file.specs.Temporary.{temporary_file}
@@ -41,7 +41,7 @@ file_is file other same_name same_job same_bytes =
     ∙ ap (λ job. record { name = other.name; job = job; bytes = file.bytes }) same_job
     ∙ ap (λ bytes. record { name = other.name; job = other.job; bytes = bytes }) same_bytes
 
--- One file more: that of a number above the last one, of which no mark says anything.
+-- One more file: that of a number above the last one, of which no mark says anything.
 record HasOneMore (last : ℕ) (marks : List Mark) (name : List ℕ) (job : Job) (before after : Files) : Type 0 where
   drawn : are_drawn last marks ≡ true
   sound : AreSound last marks before
@@ -54,7 +54,7 @@ module _ (last : ℕ) (marks : List Mark) (name : List ℕ) (job : Job) (before 
   undecided : is_decided (last + 1) marks ≡ false
   undecided = fresh_undecided last (last + 1) marks (omega arith) more.drawn
 
-  -- the file is there
+  -- the file exists
   placed_is : IsJobFile marks after (placed_file name (last + 1) job)
   placed_is = record { held = more.placed; named = more.named; undecided = undecided }
 
@@ -74,7 +74,7 @@ module _ (last : ℕ) (marks : List Mark) (name : List ℕ) (job : Job) (before 
   still_there : (file : JobFile) → IsJobFile marks before file → IsJobFile marks after file
   still_there file is = is_there marks before after file (more.others file.name file.job is.named (was_other file is)) is
 
-  -- a file that is there was there, or it is that of the job
+  -- a file that exists was there, or it is that of the job
   was_there : (file : JobFile) → IsJobFile marks after file → IsJobFile marks before file ⊎ (file ≡ placed_file name (last + 1) job)
   was_there file is = elim (one_or_other file.name name) [
     | inl same ↦ inr (file_is file (placed_file name (last + 1) job) same (job_is same) (bytes_are same))

@@ -1,4 +1,4 @@
--- What a folder shows, and what its names and numbers show, are one.
+-- What a directory shows, and what its names and numbers show, are one.
 use Rattle.std.proofs.Common.{◌≡◌, ℕ, Bool, true, false, List, [], sym, ap, subst, ◌∙◌, refl}
 use Rattle.std.specs.Prelude.{Option, Some, None, Result, Ok, Err, MatchBool}
 use Rattle.std.specs.Cmp.{nat_cmp_total}
@@ -7,7 +7,7 @@ use Rattle.std.specs.FinMap as map
 use Rattle.std.specs.FinMap.{entries, from_entries, get-entries, get-from_entries, nat_cmp-IsAntisymmetric, same_map}
 use Rattle.std.specs.FinMap.Entries.{find}
 use Rattle.host_calls.specs.declared.damage.Damage.{Damage}
-use Rattle.host_calls.specs.Folder.{Files, name_cmp}
+use Rattle.host_calls.specs.Directory.{Files, name_cmp}
 use Rattle.sequence_file.specs.Sequence.{sequence_file}
 use Rattle.spool_model.specs.JobTable.{JobEntries, JobEntry, JobTable, table_of}
 use Rattle.start_journal.specs.declared.mark.Mark.{Mark}
@@ -17,7 +17,7 @@ use Rattle.start_journal.specs.Marks.{AreLegalMarks, is_decided}
 use Rattle.spool_shows.specs.ByName.{AreSound, ShowsByName, ShowsDone, ShowsEntry, ShowsLive}
 use Rattle.spool_shows.specs.JobFiles.{JobFile, files_damage}
 use Rattle.sequence_file.specs.LastNumber.{last_in}
-use Rattle.spool_shows.specs.Laws.{FoldersAreShownByName}
+use Rattle.spool_shows.specs.Laws.{DirectoriesAreShownByName}
 use Rattle.spool_shows.specs.Shown.{Shows, damage_of_jobs, entries_shown, live_entry, shown_after_journal, shown_after_last, shown_by, starts_damage, table_or_damage, table_shown}
 use Rattle.sequence_file.proofs.LastNumbers.{last_spelled}
 use Rattle.spool_shows.proofs.ByNameReads.{journal_read, last_read, read_gives_journal}
@@ -29,7 +29,7 @@ use Rattle.spool_shows.proofs.Membership.{contained, has_contained}
 use Rattle.spool_shows.proofs.SoundLemmas.{AreFine, fine_is_no_damage, fine_is_whole, fine_once, neither_first, no_damage_is_fine, whole_is_fine}
 use Rattle.spool_shows.proofs.StartLemmas.{start_has_file, starts_have_files}
 
--- what is read of a folder that shows a table
+-- what is read of a directory that shows a table
 record Reads (files : Files) (table : JobTable) : Type 0 where
   last : ℕ
   read : JournalRead
@@ -151,8 +151,8 @@ reads_of files table is =
       shown = λ i. table_of table.last (sym same i) (sym is.batch i);
     }
 
-pub folders_are_shown_by_name : FoldersAreShownByName
-folders_are_shown_by_name files table = record {
+pub directories_are_shown_by_name : DirectoriesAreShownByName
+directories_are_shown_by_name files table = record {
   by_name = λ shows. by_name_of files table (reads files table shows);
   shown = λ is. shown_of_reads files table (reads_of files table is);
 }

@@ -1,8 +1,8 @@
--- What a folder shows by name says of the sequence file and of the journal, as it computes.
+-- What a directory shows by name says of the sequence file and of the journal, as it computes.
 use Rattle.std.proofs.Common.{◌≡◌, ℕ, List}
 use Rattle.std.specs.Prelude.{Option, Ok}
 use Rattle.std.specs.FinMap as map
-use Rattle.host_calls.specs.Folder.{Files}
+use Rattle.host_calls.specs.Directory.{Files}
 use Rattle.sequence_file.specs.LastNumber.{last_in}
 use Rattle.sequence_file.specs.Sequence.{sequence_file}
 use Rattle.sequence_file.proofs.LastNumbers.{last_given}

@@ -1,10 +1,10 @@
--- A folder whose journal was compacted shows the same table.
+-- A directory whose journal was compacted shows the same table.
 use Rattle.std.proofs.Common.{◌≡◌, ℕ, ℤ, Bool, true, false, List, Option, Some, None, [], ◌∷◌, sym, ap, subst, ◌∙◌, refl}
 use Rattle.std.specs.Prelude.{◌||◌, Contains, MatchBool, Ok}
 use Rattle.std.specs.FinMap as map
 use Rattle.std.specs.List.{All}
 use Rattle.std.proofs.lemmas.List.Elements.{All-cons, All-contains, All-nil}
-use Rattle.host_calls.specs.Folder.{Files}
+use Rattle.host_calls.specs.Directory.{Files}
 use Rattle.sequence_file.specs.Sequence.{sequence_file}
 use Rattle.spool_model.specs.JobTable.{JobEntry, JobTable, entry_at}
 use Rattle.start_journal.specs.declared.mark.Mark.{Mark}
@@ -53,7 +53,7 @@ not_contained number marks mark unnamed named there =
     let impossible : true ≡ false = sym named ∙ All-contains (IsSilent number) marks mark (all_silent number marks unnamed) there in
     cc
 
--- What is known of the marks and of the folders.
+-- What is known of the marks and of the directories.
 
 record IsCompacted (marks : List Mark) (before after : Files) : Type 0 where
   legal : AreLegalMarks marks
@@ -89,7 +89,7 @@ entry_kept marks before after number entry compacted shows = by_test (is_forgott
   by_test false is =
       entry_moves number marks (kept_marks marks) before after entry compacted.same (tell_same number marks (kept_marks marks) (compacted.keeps.same_marks number is)) shows
 
--- and the folder is as sound
+-- and the directory is as sound
 sound_kept : (last : ℕ) (marks : List Mark) (before after : Files) → IsCompacted marks before after → AreSound last marks before → AreSound last (kept_marks marks) after
 sound_kept last marks before after compacted sound = sound_moves last marks (kept_marks marks) before after (record { files = compacted.same; back = back; started = started }) sound where
   same_decided : (number : ℕ) → is_forgotten number marks ≡ false → is_decided number (kept_marks marks) ≡ false → is_decided number marks ≡ false

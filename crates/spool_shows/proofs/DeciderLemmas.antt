@@ -1,4 +1,4 @@
--- A number is decided once.
+-- A number is finished once.
 use Rattle.std.proofs.Common.{◌≡◌, ℕ, true, false, List, [], ◌∷◌, sym, ap, ◌∙◌, refl, inl, inr, IsTrue}
 use Rattle.std.specs.Prelude.{Option, Some}
 use Rattle.spool_model.specs.JobTable.{JobEntry}
@@ -7,14 +7,14 @@ use Rattle.start_journal.specs.declared.mark.Mark.TheVariants.{Removed, Started,
 use Rattle.start_journal.specs.declared.stage.Stage.{Stage}
 use Rattle.start_journal.specs.declared.stage.Stage.TheVariants.{Fresh, Closed, Gone}
 use Rattle.start_journal.specs.Marks.{AreLegalMarks, decides, marks_of, is_mark_of}
-use Rattle.start_journal.specs.Stages.{GoThrough, allows, stage_after}
+use Rattle.start_journal.specs.Stages.{AreAllowedFrom, allows, stage_after}
 use Rattle.start_journal.proofs.LifeLemmas.{numbers_live_once}
 use Rattle.start_journal.proofs.MarkLemmas.{decides_names}
 use Rattle.spool_shows.specs.Shown.{done_entry}
 use Rattle.spool_shows.proofs.EntryLemmas.{done_decides}
 use Rattle.spool_shows.proofs.Membership.{Has, has_filtered}
 
--- the number is decided at this stage
+-- the number is finished at this stage
 abbrev IsOver : Stage → Type 0
 IsOver Closed = Unit {0}
 IsOver Gone = Unit {0}
@@ -31,17 +31,17 @@ brings number stage (Batch second) is = let impossible : false ≡ true = is in 
 
 -- no mark that comes there decides, and the stage stays over
 record Goes (number : ℕ) (stage : Stage) (mark : Mark) : Type 0 where
-  silent : decides number mark ≡ false
+  unchecked : decides number mark ≡ false
   over : IsOver (stage_after stage mark)
 
 goes_on : (number : ℕ) (stage : Stage) (mark : Mark) → IsOver stage → IsTrue (allows stage mark) → Goes number stage mark
-goes_on number Closed (Forgotten of) over may = record { silent = refl; over = tt }
-goes_on number Closed (Batch second) over may = record { silent = refl; over = tt }
+goes_on number Closed (Forgotten of) over may = record { unchecked = refl; over = tt }
+goes_on number Closed (Batch second) over may = record { unchecked = refl; over = tt }
 goes_on number Closed (Removed of) over may = let impossible : false ≡ true = may in cc
 goes_on number Closed (Started of queue second) over may = let impossible : false ≡ true = may in cc
 goes_on number Closed (Ended of ending) over may = let impossible : false ≡ true = may in cc
 goes_on number Closed (Interrupted of) over may = let impossible : false ≡ true = may in cc
-goes_on number Gone (Batch second) over may = record { silent = refl; over = tt }
+goes_on number Gone (Batch second) over may = record { unchecked = refl; over = tt }
 goes_on number Gone (Forgotten of) over may = let impossible : false ≡ true = may in cc
 goes_on number Gone (Removed of) over may = let impossible : false ≡ true = may in cc
 goes_on number Gone (Started of queue second) over may = let impossible : false ≡ true = may in cc
@@ -49,16 +49,16 @@ goes_on number Gone (Ended of ending) over may = let impossible : false ≡ true
 goes_on number Gone (Interrupted of) over may = let impossible : false ≡ true = may in cc
 goes_on number _ mark over may = absurd over
 
-none_decides : (number : ℕ) (stage : Stage) (list : List Mark) (mark : Mark) → IsOver stage → GoThrough stage list → Has list mark → decides number mark ≡ true → ⊥
+none_decides : (number : ℕ) (stage : Stage) (list : List Mark) (mark : Mark) → IsOver stage → AreAllowedFrom stage list → Has list mark → decides number mark ≡ true → ⊥
 none_decides number stage [] mark over through has is = has
 none_decides number stage (first ∷ later) mark over through (inl same) is =
-    let impossible : false ≡ true = sym (goes_on number stage first over through.0).silent ∙ ap (decides number) same ∙ is in
+    let impossible : false ≡ true = sym (goes_on number stage first over through.0).unchecked ∙ ap (decides number) same ∙ is in
     cc
 none_decides number stage (first ∷ later) mark over through (inr has) is =
     none_decides number (stage_after stage first) later mark (goes_on number stage first over through.0).over through.1 has is
 
 -- one mark decides a number
-one_decider : (number : ℕ) (stage : Stage) (list : List Mark) (one other : Mark) → GoThrough stage list → Has list one → Has list other → decides number one ≡ true → decides number other ≡ true → one ≡ other
+one_decider : (number : ℕ) (stage : Stage) (list : List Mark) (one other : Mark) → AreAllowedFrom stage list → Has list one → Has list other → decides number one ≡ true → decides number other ≡ true → one ≡ other
 one_decider number stage [] one other through has has_other is is_other = absurd has
 one_decider number stage (first ∷ later) one other through (inl same) (inl same_other) is is_other = sym same ∙ same_other
 one_decider number stage (first ∷ later) one other through (inl same) (inr has_other) is is_other =

@@ -1,7 +1,7 @@
--- A folder in which the next number was drawn shows the table with that number.
+-- A directory in which the next number was drawn shows the table with that number.
 use Rattle.std.proofs.Common.{◌≡◌, ◌≤◌, ◌+◌, ap, ◌∙◌, arith}
 use Rattle.std.specs.FinMap as map
-use Rattle.host_calls.specs.Folder.{Files}
+use Rattle.host_calls.specs.Directory.{Files}
 use Rattle.sequence_file.specs.Sequence.{sequence_file}
 use Rattle.whole_file.specs.Temporary.{temporary_file}
 use Rattle.spool_model.specs.declared.step.Step.TheVariants.{Draw}

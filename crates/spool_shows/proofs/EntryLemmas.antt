@@ -1,11 +1,11 @@
--- The entries of the table that a folder shows.
+-- The entries of the table that a directory shows.
 use Rattle.std.proofs.Common.{◌≡◌, ◌⊎◌, ℕ, Bool, true, false, List, sym, ap, subst, ◌∙◌, refl, inl, inr}
 use Rattle.std.specs.Prelude.{◌==◌, Option, Some, None, MatchBool, if◌then◌else◌}
 use Rattle.std.specs.Cmp.{nat_cmp_total}
 use Rattle.std.specs.Ordering.{nat_cmp}
 use Rattle.std.specs.FinMap.Entries.{find}
 use Rattle.std.proofs.lemmas.Map.Lookups.{exact_unsigned}
-use Rattle.host_calls.specs.Folder.{Files}
+use Rattle.host_calls.specs.Directory.{Files}
 use Rattle.spool_model.specs.declared.entry.Entry.TheVariants.{Done}
 use Rattle.spool_model.specs.declared.fate.Fate.{Fate}
 use Rattle.spool_model.specs.declared.fate.Fate.TheVariants as fate
@@ -26,7 +26,7 @@ use Rattle.spool_shows.proofs.StartLemmas.{number_passes}
 abbrev done_at : ℕ → Fate → ℕ × JobEntry
 done_at of with = (of, Done with)
 
--- a number that is decided, by its fate
+-- a number that is finished, by its fate
 done_as_says : (marks : List Mark) (of : ℕ) (with : Fate) (number : ℕ) (entry : JobEntry) → done_as marks of with ≡ Some (number, entry) → (of ≡ number) × (is_forgotten of marks ≡ false)
 done_as_says marks of with number entry is = by_test (is_forgotten of marks) refl is where
   by_test : (b : Bool) → is_forgotten of marks ≡ b → (if b then None else Some (done_at of with)) ≡ Some (number, entry) → (of ≡ number) × (is_forgotten of marks ≡ false)
@@ -84,7 +84,7 @@ live_undecided marks files file number entry is same decided =
 done_decided : (marks : List Mark) (mark : Mark) (number : ℕ) (entry : JobEntry) → Has marks mark → done_entry marks mark ≡ Some (number, entry) → is_decided number marks ≡ true
 done_decided marks mark number entry has is = any_passes (decides number) marks mark has (done_decides marks mark number entry is).0
 
--- the entry that the list has under a number, by whether it is decided
+-- the entry that the list has under a number, by whether it is finished
 by_decided : (marks : List Mark) (files : Files) (number : ℕ) (found : Option JobEntry) (decided : Bool) → is_decided number marks ≡ decided → find nat_cmp number (entries_shown marks (files_that_count marks files)) ≡ found → MatchBool decided (ShowsDone marks number found) (ShowsLive marks files number found)
 by_decided marks files number None true decided found = by_test (is_forgotten number marks) refl where
   by_test : (b : Bool) → is_forgotten number marks ≡ b → is_forgotten number marks ≡ true
@@ -109,7 +109,7 @@ by_decided marks files number (Some entry) false undecided found =
       | inr done ↦ let impossible : true ≡ false = sym (done_decided marks done.0 number entry done.1 done.2) ∙ undecided in cc
     ]
 
--- the entry that the list has under a number is the one that the folder shows
+-- the entry that the list has under a number is the one that the directory shows
 pub shows_found : (marks : List Mark) (files : Files) (number : ℕ) → ShowsEntry marks files number (find nat_cmp number (entries_shown marks (files_that_count marks files)))
 shows_found marks files number =
     by_test (is_decided number marks) refl where

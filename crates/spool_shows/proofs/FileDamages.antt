@@ -8,7 +8,7 @@ use Rattle.std.proofs.lemmas.Bool.Decides.{nat_tests}
 use Rattle.std.proofs.Math.Nat.{eq-or-lt_of_le}
 use Rattle.host_calls.specs.declared.damage.Damage.{Damage}
 use Rattle.host_calls.specs.Damages.{damage_at}
-use Rattle.host_calls.specs.Folder.{Files}
+use Rattle.host_calls.specs.Directory.{Files}
 use Rattle.job_script.specs.Header.{IsHeaderFault}
 use Rattle.job_script.specs.HeaderIn.{header_in, header_place}
 use Rattle.job_script.proofs.HeaderInLemmas.{header_in-none, header_place-fault}
@@ -221,7 +221,7 @@ fine_files last marks files seen (file ∷ later) left fine =
     ap (λ o. option_or (damage_of file o) (files_damage last (file.job.number ∷ numbers_of seen) later)) (no_place_of last marks files seen file later left (fine file (inl refl)))
     ∙ fine_files last marks files (file ∷ seen) later (one_more last marks files seen file later left) (λ other has. fine other (inr has))
 
--- Of the whole folder.
+-- Of the whole directory.
 
 pub first_file : (last : ℕ) (marks : List Mark) (files : Files) (damage : Damage) → files_damage last [] (files_that_count marks files) ≡ Some damage → IsFileDamage last marks files damage
 first_file last marks files damage is = files_first last marks files [] (files_that_count marks files) damage (all_left marks files) (λ file none. absurd none) is

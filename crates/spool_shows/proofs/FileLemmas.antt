@@ -5,7 +5,7 @@ use Rattle.std.specs.List.{filter}
 use Rattle.std.specs.Cmp.Lexicographic.{nat_list_cmp_total}
 use Rattle.std.specs.FinMap as map
 use Rattle.std.specs.FinMap.{entries, entries_sorted}
-use Rattle.host_calls.specs.Folder.{Files, name_cmp}
+use Rattle.host_calls.specs.Directory.{Files, name_cmp}
 use Rattle.start_journal.specs.declared.mark.Mark.{Mark}
 use Rattle.start_journal.specs.Marks.{is_decided}
 use Rattle.std.proofs.lemmas.Bool.{not-true}
@@ -15,11 +15,11 @@ use Rattle.job_name.specs.JobName.{NamedJob, job_named}
 use Rattle.spool_shows.proofs.EntryLists.{AreApart, apart_filtered, apart_given, apart_sorted, entry_is_file, file_is_entry}
 use Rattle.spool_shows.proofs.Membership.{Has, filtered_has, given_has, has_filtered, has_given}
 
--- the files that count, of a folder
+-- the files that count, of a directory
 abbrev pub files_that_count : List Mark → Files → List JobFile
 files_that_count marks files = job_files marks (entries files)
 
--- the file of a name says what stands there
+-- the file of a name says what is there
 pub file_says : (name bytes : List ℕ) (named : Option NamedJob) (file : JobFile) → file_named name bytes named ≡ Some file → (file.name ≡ name) × (file.bytes ≡ bytes) × (named ≡ Some file.job)
 file_says name bytes None file is = let impossible : None ≡ Some file = is in cc
 file_says name bytes (Some job) file is =
@@ -33,15 +33,15 @@ undecided_of marks named job is counted = not-true (is_decided job.number marks)
 pub counted_is_file : (marks : List Mark) (files : Files) (file : JobFile) → Has (files_that_count marks files) file → IsJobFile marks files file
 counted_is_file marks files file has =
     let entry : (e : List ℕ × List ℕ) × Has (filter (λ (e : List ℕ × List ℕ). counts marks e.0) (entries files)) e × (job_file e ≡ Some file) = given_has job_file _ file has in
-    let stands : Has (entries files) entry.0 × (counts marks entry.0.0 ≡ true) = filtered_has (λ (e : List ℕ × List ℕ). counts marks e.0) (entries files) entry.0 entry.1 in
+    let holds : Has (entries files) entry.0 × (counts marks entry.0.0 ≡ true) = filtered_has (λ (e : List ℕ × List ℕ). counts marks e.0) (entries files) entry.0 entry.1 in
     let says : (file.name ≡ entry.0.0) × (file.bytes ≡ entry.0.1) × (job_named entry.0.0 ≡ Some file.job) = file_says entry.0.0 entry.0.1 (job_named entry.0.0) file entry.2 in
     record {
-      held = ap (map.get files) says.0 ∙ entry_is_file files entry.0.0 entry.0.1 stands.0 ∙ ap Some (sym says.1);
+      held = ap (map.get files) says.0 ∙ entry_is_file files entry.0.0 entry.0.1 holds.0 ∙ ap Some (sym says.1);
       named = ap job_named says.0 ∙ says.2;
-      undecided = undecided_of marks (job_named entry.0.0) file.job says.2 stands.1;
+      undecided = undecided_of marks (job_named entry.0.0) file.job says.2 holds.1;
     }
 
--- a file that is there and counts is in the list
+-- a file that exists and counts is in the list
 pub file_is_counted : (marks : List Mark) (files : Files) (file : JobFile) → IsJobFile marks files file → Has (files_that_count marks files) file
 file_is_counted marks files file is =
     let counted : counts marks file.name ≡ true = ap (counts_as marks) is.named ∙ ap not is.undecided in

@@ -1,4 +1,4 @@
--- The files of jobs stand in byte order of their names.
+-- The files of jobs are in byte order of their names.
 use Rattle.std.proofs.Common.{◌≡◌, ℕ, Bool, true, false, cond, List, [], ◌∷◌, sym, ap, ◌∙◌, refl}
 use Rattle.std.specs.Prelude.{Option, Some, None, T}
 use Rattle.std.specs.List.{cons_option, filter, filter_map}
@@ -10,7 +10,7 @@ use Rattle.std.specs.Ordering.{ordering_reverse}
 use Rattle.std.specs.declared.cmp.Ordering.{Ordering}
 use Rattle.std.specs.declared.cmp.Ordering.TheVariants.{Less, Equal, Greater}
 use Rattle.std.proofs.lemmas.Map.Lookups.{exact_bytes}
-use Rattle.host_calls.specs.Folder.{Files, name_cmp}
+use Rattle.host_calls.specs.Directory.{Files, name_cmp}
 use Rattle.job_name.specs.JobName.{job_named}
 use Rattle.start_journal.specs.declared.mark.Mark.{Mark}
 use Rattle.spool_shows.specs.FirstDamage.{IsEarlierName}

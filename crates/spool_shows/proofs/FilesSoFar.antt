@@ -1,4 +1,4 @@
--- The job files among the first files of a folder, by their first bytes.
+-- The job files among the first files of a directory, by their first bytes.
 use Rattle.std.proofs.Common.{◌≡◌, ℕ, zero, suc, ◌+◌, ◌<◌, ◌≤◌, arith, List, Option, Some, [], ◌∷◌, ◌++◌, length, get_or, map, take, drop, sym, ap, subst, ◌∙◌, refl, inl, inr}
 use Rattle.std.specs.Prelude.{IsSome, option_map}
 use Rattle.std.specs.List.{filter, filter_map}
@@ -6,7 +6,7 @@ use Rattle.std.specs.FinMap as finite
 use Rattle.std.specs.FinMap.{entries}
 use Rattle.std.proofs.lemmas.List.{get_or-map, length-map, map-append, take_all, take_more}
 use Rattle.std.proofs.lemmas.List.Elements.{filter-append, filter_map-append}
-use Rattle.host_calls.specs.Folder.{Files}
+use Rattle.host_calls.specs.Directory.{Files}
 use Rattle.start_journal.specs.declared.mark.Mark.{Mark}
 use Rattle.spool_shows.specs.JobFiles.{JobFile, counts, job_file, job_files}
 use Rattle.spool_shows.proofs.CutFiles.{first_bytes}

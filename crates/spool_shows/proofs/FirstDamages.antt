@@ -1,11 +1,11 @@
--- What a folder shows of damage is its first damage, by names and places.
+-- What a directory shows of damage is its first damage, by names and places.
 use Rattle.std.proofs.Common.{◌≡◌, ℕ, List, [], sym, ap, ◌∙◌, refl}
 use Rattle.std.specs.Prelude.{Option, Some, None, Result, Ok, Err}
 use Rattle.std.specs.FinMap as map
 use Rattle.std.specs.FinMap.{entries, get-entries}
 use Rattle.std.specs.Option.{option_or}
 use Rattle.host_calls.specs.declared.damage.Damage.{Damage}
-use Rattle.host_calls.specs.Folder.{Files}
+use Rattle.host_calls.specs.Directory.{Files}
 use Rattle.sequence_file.specs.LastNumber.{last_in}
 use Rattle.sequence_file.specs.Sequence.{GivesNumber, sequence_file}
 use Rattle.sequence_file.proofs.LastNumbers.{last_given, last_numbers_are_damaged, last_spelled}
@@ -13,7 +13,7 @@ use Rattle.spool_model.specs.JobTable.{JobTable}
 use Rattle.start_journal.specs.declared.mark.Mark.{Mark}
 use Rattle.start_journal.specs.Journals.{JournalRead, journal_file, journal_in}
 use Rattle.start_journal.proofs.FirstFaults.{journals_are_damaged, journals_are_given}
-use Rattle.spool_shows.specs.DamageLaws.{FoldersShowTheirFirstDamage, UndamagedFoldersShowTables}
+use Rattle.spool_shows.specs.DamageLaws.{DirectoriesShowTheirFirstDamage, UndamagedDirectoriesShowTables}
 use Rattle.spool_shows.specs.FirstDamage.{IsFirstDamage, ReadAs, of_file, of_journal, of_sequence, of_start}
 use Rattle.spool_shows.specs.JobFiles.{files_damage}
 use Rattle.spool_shows.specs.Shown.{damage_of_jobs, shown_after_journal, shown_after_last, shown_by, starts_damage, table_or_damage, table_shown}
@@ -52,7 +52,7 @@ by_last files damage (Ok last) found is =
     by_journal files damage last (last_spelled (map.get files sequence_file) last found) (journal_in last (map.get files journal_file)) refl
     (ap (λ content. shown_after_journal last (journal_in last content) (entries files)) (get-entries files journal_file) ∙ is)
 
--- what a folder shows, by what stands under the two names
+-- what a directory shows, by what is under the two names
 shown_is : (files : Files) → shown_by files ≡ shown_after_last (last_in (map.get files sequence_file)) (entries files)
 unfolding shown_by
 shown_is files = ap (λ content. shown_after_last (last_in content) (entries files)) (sym (get-entries files sequence_file))
@@ -86,11 +86,11 @@ first_computed files damage (of_start last marks read fine is) =
     (ap (λ o. option_or o (starts_damage marks (files_that_count marks files) 0 marks)) (undamaged_all last marks files fine)
     ∙ start_first marks files (undamaged_once last marks files fine) damage is)
 
-pub folders_show_their_first_damage : FoldersShowTheirFirstDamage
-folders_show_their_first_damage files damage = (computed_first files damage, first_computed files damage)
+pub directories_show_their_first_damage : DirectoriesShowTheirFirstDamage
+directories_show_their_first_damage files damage = (computed_first files damage, first_computed files damage)
 
-pub undamaged_folders_show_tables : UndamagedFoldersShowTables
-undamaged_folders_show_tables files = (
+pub undamaged_directories_show_tables : UndamagedDirectoriesShowTables
+undamaged_directories_show_tables files = (
   λ shown damage is.
       let impossible : ◌≡◌ {A = Result JobTable Damage} (Ok shown.0) (Err damage) = sym shown.1 ∙ first_computed files damage is in
       cc,

@@ -29,7 +29,7 @@ fresh_unnamed last number (mark ∷ later) greater drawn =
     let tests : (is_drawn last mark ≡ true) × (are_drawn last later ≡ true) = and_parts (is_drawn last mark) (are_drawn last later) drawn in
     ap (λ b. b || has_mark_of number later) (mark_unnamed last number mark greater tests.0) ∙ fresh_unnamed last number later greater tests.1
 
--- so it is not decided
+-- so it is not finished
 pub fresh_undecided : (last number : ℕ) (marks : List Mark) → last < number → are_drawn last marks ≡ true → is_decided number marks ≡ false
 fresh_undecided last number marks greater drawn = (unnamed_none number marks (fresh_unnamed last number marks greater drawn)).1
 

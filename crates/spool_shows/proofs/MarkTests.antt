@@ -1,4 +1,4 @@
--- What a list of marks tells of one number, by the marks of that number, and with one mark more.
+-- What a list of marks tells of one number, by the marks of that number, and with one more mark.
 use Rattle.std.proofs.Common.{◌≡◌, ℕ, ℤ, Bool, true, false, cond, List, Option, Some, None, [], ◌∷◌, ◌++◌, sym, ap, subst, ◌∙◌, refl}
 use Rattle.std.specs.Prelude.{◌||◌, Contains}
 use Rattle.std.specs.List.{All, filter, list_any}
@@ -17,16 +17,16 @@ pub neither : (one other : Bool) → (one || other) ≡ false → (one ≡ false
 neither true other is = cc
 neither false other is = (refl, is)
 
--- One mark more.
+-- One more mark.
 
--- what one mark more does not pass, none passed before
+-- what one more mark does not pass, none passed before
 pub none_before : (test : Mark → Bool) (before : List Mark) (mark : Mark) → list_any test (before ++ mark ∷ []) ≡ false → list_any test before ≡ false
 none_before test before mark none = by_test (list_any test before) refl where
   by_test : (passes : Bool) → list_any test before ≡ passes → list_any test before ≡ false
   by_test true is = let impossible : true ≡ false = sym (any_more test before mark ∙ ap (λ b. b || test mark) is) ∙ none in cc
   by_test false is = is
 
--- the last batch start with one mark more
+-- the last batch start with one more mark
 first_none : (one : Option ℤ) → first_of_two one None ≡ one
 first_none (Some second) = refl
 first_none None = refl
@@ -110,7 +110,7 @@ tell_same number one other same = record {
 
 -- Legal marks.
 
--- a number that is not decided is not forgotten
+-- a number that is not finished is not forgotten
 pub not_forgotten : (marks : List Mark) (number : ℕ) → AreLegalMarks marks → is_decided number marks ≡ false → is_forgotten number marks ≡ false
 not_forgotten marks number legal undecided = by_test (is_forgotten number marks) refl where
   by_test : (forgotten : Bool) → is_forgotten number marks ≡ forgotten → is_forgotten number marks ≡ false

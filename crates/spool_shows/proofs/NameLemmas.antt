@@ -1,10 +1,10 @@
--- Which names are those of jobs, and what folders show that agree on them.
+-- Which names are those of jobs, and what directories show that agree on them.
 use Rattle.std.proofs.Common.{◌≡◌, ◌≤◌, ℕ, Bool, true, false, List, sym, ap, ◌∙◌, refl, arith}
 use Rattle.std.specs.Prelude.{Option, Some, None, MatchBool}
 use Rattle.std.specs.FinMap as map
 use Rattle.std.specs.Str.{bytes_eq}
 use Rattle.std.proofs.lemmas.Slice.Eq.{bytes_eq-Decides}
-use Rattle.host_calls.specs.Folder.{Files}
+use Rattle.host_calls.specs.Directory.{Files}
 use Rattle.sequence_file.specs.Sequence.{sequence_file}
 use Rattle.whole_file.specs.Temporary.{temporary_file}
 use Rattle.spool_model.specs.JobTable.{JobEntry}
@@ -47,14 +47,14 @@ journal_apart = neither temporary_file sequence_file journal_file (differ_by _ _
 pub sequence_apart : ¬ (IsEither temporary_file journal_file sequence_file)
 sequence_apart = neither temporary_file journal_file sequence_file (differ_by _ _ refl) (differ_by _ _ refl)
 
--- the folders agree at each name of a job
+-- the directories agree at each name of a job
 abbrev pub AgreeOnNames : Files → Files → Type 0
 AgreeOnNames before after = (name : List ℕ) (job : NamedJob) → job_named name ≡ Some job → map.get after name ≡ map.get before name
 
 pub agree_back : (before after : Files) → AgreeOnNames before after → AgreeOnNames after before
 agree_back before after agree name job named = sym (agree name job named)
 
--- a file of a job that is there in one is there in the other
+-- a file of a job that exists in one exists in the other
 pub is_there : (marks : List Mark) (before after : Files) (file : JobFile) → map.get after file.name ≡ map.get before file.name → IsJobFile marks before file → IsJobFile marks after file
 is_there marks before after file same is = record { held = same ∙ is.held; named = is.named; undecided = is.undecided }
 
@@ -84,7 +84,7 @@ entry_kept marks before after number entry keep shown = by_test (is_decided numb
   by_test true done = done
   by_test false live = live_kept marks before after number entry keep live
 
--- a file of the number, in another folder
+-- a file of the number, in another directory
 pub has_file_kept : (marks : List Mark) (before after : Files) (number queue : ℕ) → KeepFiles marks before after number → HasFile marks before number queue → HasFile marks after number queue
 has_file_kept marks before after number queue keep has = record {
   file = has.file;
@@ -97,7 +97,7 @@ has_file_kept marks before after number queue keep has = record {
 pub whole_more : (last more : ℕ) (file : JobFile) → last ≤ more → IsWholeFile last file → IsWholeFile more file
 whole_more last more file least whole = record { drawn = (let drawn : file.job.number ≤ last = whole.drawn in omega arith); header = whole.header }
 
--- files that are sound stay so where folders agree on the names of jobs
+-- files that are sound stay so where directories agree on the names of jobs
 pub sound_kept : (last more : ℕ) (marks : List Mark) (before after : Files) → last ≤ more → AgreeOnNames before after → AreSound last marks before → AreSound more marks after
 sound_kept last more marks before after least agree sound =
     let back : (file : JobFile) → IsJobFile marks after file → IsJobFile marks before file = job_file_kept marks after before (agree_back before after agree) in

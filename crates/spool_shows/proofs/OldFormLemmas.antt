@@ -1,4 +1,4 @@
--- What the old form alone shows, beside what both forms show.
+-- What the old form alone shows, next to what both forms show.
 use Rattle.std.proofs.Common.{◌≡◌, ℕ, Bool, true, false, cond, List, [], ◌∷◌, length, sym, ap, ◌∙◌, refl, inl, inr, arith}
 use Rattle.std.specs.Prelude.{◌==◌, Option, Some, None, Result, Ok, Err, slice_index, slice_range, if◌then◌else◌}
 use Rattle.std.specs.FinMap as map
@@ -6,9 +6,9 @@ use Rattle.std.specs.FinMap.{entries, find, get-entries}
 use Rattle.std.specs.List.{cons_option, filter, filter_map}
 use Rattle.std.specs.Option.{option_or}
 use Rattle.std.proofs.lemmas.Bool.{eqb-true}
-use Rattle.hex_digits.specs.Values.{number_in}
+use Rattle.text_reader.specs.HexValues.{number_in}
 use Rattle.host_calls.specs.declared.damage.Damage.{Damage}
-use Rattle.host_calls.specs.Folder.{Files, name_cmp}
+use Rattle.host_calls.specs.Directory.{Files, name_cmp}
 use Rattle.job_name.specs.JobName.{NamedJob, SpellsJobName, job_in_range, job_named, job_spelled}
 use Rattle.job_name.proofs.NamedJobs.{name_spelled}
 use Rattle.sequence_file.specs.LastNumber.{last_in}
@@ -17,7 +17,7 @@ use Rattle.sequence_file.proofs.LastNumbers.{last_given, spelled_as}
 use Rattle.start_journal.specs.declared.mark.Mark.{Mark}
 use Rattle.start_journal.specs.Journals.{JournalRead, journal_file, journal_in}
 use Rattle.spool_shows.specs.JobFiles.{JobFile, counts, counts_as, file_named, job_file, job_files}
-use Rattle.spool_shows.specs.OldForm.{HasNoNewFormName, OldFormFoldersShowTheSame, OldFormTablesAreShown, old_form_after_journal, old_form_after_last, old_form_job_file, old_form_job_files, old_form_job_named, old_form_last_in, old_form_number_or_damage, old_form_sequence_in, old_form_shown_by}
+use Rattle.spool_shows.specs.OldForm.{HasNoNewFormName, OldFormDirectoriesShowTheSame, OldFormTablesAreShown, old_form_after_journal, old_form_after_last, old_form_job_file, old_form_job_files, old_form_job_named, old_form_last_in, old_form_number_or_damage, old_form_sequence_in, old_form_shown_by}
 use Rattle.spool_shows.specs.Shown.{Shows, shown_after_journal, shown_after_last, shown_by, shown_by_files}
 use Rattle.spool_shows.proofs.EntryLists.{entry_is_file}
 use Rattle.spool_shows.proofs.Membership.{Has}
@@ -29,7 +29,7 @@ new_form_counted name job is = by_test (length name == 17) refl is where
   by_test true counted found = eqb-true (length name) 17 counted
   by_test false counted found = cc
 
--- in a folder without names in the new form no name of a file is read in the new form
+-- in a directory without names in the new form no name of a file is read in the new form
 not_new_form : (files : Files) (name bytes : List ℕ) → HasNoNewFormName files → map.get files name ≡ Some bytes → job_spelled true name ≡ None
 not_new_form files name bytes none held = by_found (job_spelled true name) refl where
   by_form : (job : NamedJob) (new_form : Bool) → job_spelled true name ≡ Some job → SpellsJobName name job.queue job.number job.minute new_form → ⊥
@@ -75,8 +75,8 @@ old_form_after : (files : Files) → old_form_shown_by files ≡ old_form_after_
 unfolding old_form_shown_by
 old_form_after files = ap (λ content. old_form_after_last (old_form_last_in content) (entries files)) (sym (get-entries files sequence_file))
 
-pub old_form_folders_show_the_same : OldFormFoldersShowTheSame
-old_form_folders_show_the_same files last none is =
+pub old_form_directories_show_the_same : OldFormDirectoriesShowTheSame
+old_form_directories_show_the_same files last none is =
     shown_after files
     ∙ ap (λ found. shown_after_last found (entries files)) (last_old_form (map.get files sequence_file) last is)
     ∙ by_journal (journal_in last (find name_cmp journal_file (entries files)))
@@ -88,7 +88,7 @@ old_form_folders_show_the_same files last none is =
 pub old_form_tables_are_shown : OldFormTablesAreShown
 old_form_tables_are_shown files table none shows = by_last (old_form_last_in (map.get files sequence_file)) refl where
   by_last : (found : Result ℕ Damage) → old_form_last_in (map.get files sequence_file) ≡ found → Shows files table
-  by_last (Ok last) is = old_form_folders_show_the_same files last none is ∙ shows
+  by_last (Ok last) is = old_form_directories_show_the_same files last none is ∙ shows
   by_last (Err damage) is =
       let impossible : Err damage ≡ Ok table = sym (old_form_after files ∙ ap (λ found. old_form_after_last found (entries files)) is) ∙ shows in
       cc

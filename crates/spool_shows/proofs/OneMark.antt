@@ -1,11 +1,11 @@
--- A folder with one mark more in its journal, and with the entry of its number put or taken out.
+-- A directory with one more mark in its journal, and with the entry of its number put or taken out.
 use Rattle.std.proofs.Common.{◌≡◌, ℕ, ℤ, true, false, List, Option, Some, [], ◌∷◌, ◌++◌, sym, ap, subst, ◌∙◌, inl, inr}
 use Rattle.std.specs.Prelude.{◌==◌, Contains, Ok, Result, slice_index}
 use Rattle.std.specs.FinMap as map
 use Rattle.std.proofs.lemmas.Bool.Decides.{eqb_tells}
 use Rattle.std.proofs.lemmas.List.Elements.{Contains-push, Contains-push_cases}
 use Rattle.host_calls.specs.declared.damage.Damage.{Damage}
-use Rattle.host_calls.specs.Folder.{Files}
+use Rattle.host_calls.specs.Directory.{Files}
 use Rattle.sequence_file.specs.Sequence.{sequence_file}
 use Rattle.whole_file.specs.Temporary.{temporary_file}
 use Rattle.spool_model.specs.declared.entry.Entry.TheVariants.{Done}
@@ -54,15 +54,15 @@ sequence_elsewhere (inr same) = let impossible : true ≡ false = ap (λ name. s
 pub last_moves : (before after : Files) (last : ℕ) → AgreeElsewhere temporary_file journal_file before after → last_in (map.get before sequence_file) ≡ Ok last → last_in (map.get after sequence_file) ≡ Ok last
 last_moves before after last others is = ap last_in (others sequence_file sequence_elsewhere) ∙ is
 
--- what a step does to the table and to the folder, where its mark names this number alone
+-- what a step does to the table and to the directory, where its mark names this number alone
 pub record IsStepOf (before after : Files) (table : JobTable) (entries : JobEntries) (last_batch : Option ℤ) (added : Mark) (number : ℕ) (marks : List Mark) : Type 0 where
   pub batch : last_batch ≡ first_of_two (batch_second added) table.last_batch
-  pub silent : (other : ℕ) → ¬ (other ≡ number) → is_mark_of other added ≡ false
+  pub unchecked : (other : ℕ) → ¬ (other ≡ number) → is_mark_of other added ≡ false
   pub kept : (other : ℕ) → ¬ (other ≡ number) → map.get entries other ≡ entry_at table other
   pub here : ShowsEntry (marks ++ added ∷ []) after number (map.get entries number)
   pub starts : (other queue : ℕ) (second : ℤ) → added ≡ Started other queue second → HasFile marks before other queue
 
--- the folder is as sound with the mark
+-- the directory is as sound with the mark
 sound_more : (last : ℕ) (before after : Files) (marks : List Mark) (added : Mark) → SameJobs before after → ((other queue : ℕ) (second : ℤ) → added ≡ Started other queue second → HasFile marks before other queue) → AreSound last marks before → AreSound last (marks ++ added ∷ []) after
 sound_more last before after marks added same starts sound = sound_moves last marks (marks ++ added ∷ []) before after (record { files = same; back = back; started = started }) sound where
   back : (file : JobFile) → IsJobFile (marks ++ added ∷ []) after file → IsJobFile marks before file
@@ -79,10 +79,10 @@ entries_more : (before after : Files) (table : JobTable) (entries : JobEntries) 
 entries_more before after table entries last_batch added number marks same shows step other = elim (eqb_tells other number) [
   | inl one ↦ subst (λ n. ShowsEntry (marks ++ added ∷ []) after n (map.get entries n)) (sym one.1) step.here
   | inr apart ↦ subst (ShowsEntry (marks ++ added ∷ []) after other) (sym (step.kept other apart.1))
-      (entry_moves other marks (marks ++ added ∷ []) before after (entry_at table other) same (tell_same other marks (marks ++ added ∷ []) (marks_of_other other marks added (step.silent other apart.1))) (shows other))
+      (entry_moves other marks (marks ++ added ∷ []) before after (entry_at table other) same (tell_same other marks (marks ++ added ∷ []) (marks_of_other other marks added (step.unchecked other apart.1))) (shows other))
 ]
 
--- so the folder shows the table with the step
+-- so the directory shows the table with the step
 pub step_shown : (before after : Files) (table : JobTable) (entries : JobEntries) (last_batch : Option ℤ) (added : Mark) (number : ℕ) (shows : ShowsByName before table) → HasMarked table added before after → IsStepOf before after table entries last_batch added number shows.read.marks → ShowsByName after (table_of table.last entries last_batch)
 step_shown before after table entries last_batch added number shows marked step =
     let marks : List Mark = shows.read.marks in

@@ -1,4 +1,4 @@
--- Files that do not count change nothing of what a folder shows.
+-- Files that do not count change nothing of what a directory shows.
 use Rattle.std.proofs.Common.{◌≡◌, ℕ, Bool, true, false, None, List, cond, sym, ap, ◌∙◌, refl}
 use Rattle.std.specs.Prelude.{Result, Ok, Err}
 use Rattle.std.specs.Cmp.Lexicographic.{nat_list_cmp_total}
@@ -7,7 +7,7 @@ use Rattle.std.specs.FinMap.{entries, entries_sorted, find, get-entries, nat_cmp
 use Rattle.std.specs.FinMap.Entries.{find-where_key, is_sorted-where_key, same_entries, where_key}
 use Rattle.std.specs.List.{filter_map}
 use Rattle.host_calls.specs.declared.damage.Damage.{Damage}
-use Rattle.host_calls.specs.Folder.{Files, name_cmp}
+use Rattle.host_calls.specs.Directory.{Files, name_cmp}
 use Rattle.sequence_file.specs.Sequence.{sequence_file}
 use Rattle.start_journal.specs.declared.mark.Mark.{Mark}
 use Rattle.start_journal.specs.Journals.{JournalRead, journal_file, journal_in}
@@ -22,7 +22,7 @@ found_among test files name =
     find-where_key name_cmp test name (λ other tied. ap test (sym (slice_cmp-IsAntisymmetric nat_cmp-IsAntisymmetric name other tied))) (entries files)
     ∙ ap (λ found. cond (test name) found None) (sym (get-entries files name))
 
--- folders that agree on the names that pass a test have the same entries there
+-- directories that agree on the names that pass a test have the same entries there
 pub same_among : (test : List ℕ → Bool) (one other : Files) → ((name : List ℕ) → test name ≡ true → map.get other name ≡ map.get one name) → where_key name_cmp test (entries other) ≡ where_key name_cmp test (entries one)
 same_among test one other agree =
     same_entries name_cmp nat_list_cmp_total (slice_cmp-IsAntisymmetric nat_cmp-IsAntisymmetric) _ _

@@ -1,4 +1,4 @@
--- The names of the files of a folder that pass a test.
+-- The names of the files of a directory that pass a test.
 use Rattle.std.proofs.Common.{◌≡◌, ◌≢◌, ◌∙◌, ℕ, Bool, true, false, List, Option, Some, None, [], ◌∷◌, map, refl, sym, subst, arith}
 use Rattle.std.specs.Prelude.{AllPairs, Contains, IsSome}
 use Rattle.std.specs.Cmp.Lexicographic.{nat_list_cmp_total}
@@ -7,8 +7,8 @@ use Rattle.std.specs.FinMap.{entries, entries_sorted}
 use Rattle.std.specs.List.{filter}
 use Rattle.std.proofs.lemmas.List.Elements.{All-contains_itself}
 use Rattle.std.proofs.lemmas.List.Kept.{AllPairs-cons}
-use Rattle.host_calls.specs.Folder.{Files}
-use Rattle.whole_file.specs.Clearing.{AreFiles}
+use Rattle.host_calls.specs.Directory.{Files}
+use Rattle.whole_file.specs.Removal.{AreFiles}
 use Rattle.spool_shows.proofs.EntryLists.{AreApart, apart_filtered, apart_sorted, entry_is_file, file_is_entry}
 use Rattle.spool_shows.proofs.Membership.{Has, contained, filtered_has, has_contained, has_filtered, has_made, made_has}
 

@@ -1,7 +1,7 @@
--- A folder whose journal was written anew with the same marks shows the same table.
+-- A directory whose journal was written anew with the same marks shows the same table.
 use Rattle.std.proofs.Common.{◌≡◌, ◌≤◌, List, ap, subst, ◌∙◌, arith}
 use Rattle.std.specs.FinMap as map
-use Rattle.host_calls.specs.Folder.{Files}
+use Rattle.host_calls.specs.Directory.{Files}
 use Rattle.sequence_file.specs.Sequence.{sequence_file}
 use Rattle.whole_file.specs.Temporary.{temporary_file}
 use Rattle.spool_model.specs.JobTable.{JobTable, entry_at}

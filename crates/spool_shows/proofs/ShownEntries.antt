@@ -1,10 +1,10 @@
--- What a folder shows of one number, told by its entry, and kept where the marks of the number and
+-- What a directory shows of one number, told by its entry, and kept where the marks of the number and
 -- the files of jobs are the same.
 use Rattle.std.proofs.Common.{◌≡◌, ℕ, Bool, true, false, cond, List, Option, Some, None, sym, ap, subst, ◌∙◌, refl, arith, inl, inr}
 use Rattle.std.specs.Prelude.{◌==◌, MatchBool}
 use Rattle.std.specs.FinMap as map
 use Rattle.std.proofs.lemmas.Bool.Decides.{nat_tests}
-use Rattle.host_calls.specs.Folder.{Files}
+use Rattle.host_calls.specs.Directory.{Files}
 use Rattle.whole_file.specs.Temporary.{temporary_file}
 use Rattle.spool_model.specs.declared.entry.Entry.TheVariants.{Live, Done}
 use Rattle.spool_model.specs.declared.fate.Fate.{Fate}
@@ -37,7 +37,7 @@ fails_other one other differ = grind (arith, nat_tests)
 
 -- The files of jobs.
 
--- under each name of a job the folders have the same
+-- under each name of a job the directories have the same
 abbrev pub SameJobs : Files → Files → Type 0
 SameJobs one other = (name : List ℕ) (job : NamedJob) → job_named name ≡ Some job → map.get other name ≡ map.get one name
 
@@ -52,7 +52,7 @@ job_elsewhere name job named (inr same) = let impossible : None ≡ Some job = s
 pub same_jobs : (one other : Files) → AgreeElsewhere temporary_file journal_file one other → SameJobs one other
 same_jobs one other others name job named = others name (job_elsewhere name job named)
 
--- a file of a job is one in the other folder too, where its number is not decided there
+-- a file of a job is one in the other directory too, where its number is not finished there
 pub file_moves : (marks later : List Mark) (one other : Files) → SameJobs one other → (file : JobFile) → IsJobFile marks one file → is_decided file.job.number later ≡ false → IsJobFile later other file
 file_moves marks later one other same file is undecided = record {
   held = same file.name file.job is.named ∙ is.held;
@@ -60,7 +60,7 @@ file_moves marks later one other same file is undecided = record {
   undecided = undecided;
 }
 
--- The entry of a number that is decided.
+-- The entry of a number that is finished.
 
 -- the mark decides the number, which is not forgotten, and leaves its entry
 pub record LeavesEntry (marks : List Mark) (number : ℕ) (entry : JobEntry) (mark : Mark) : Type 0 where
@@ -124,7 +124,7 @@ done_moves number marks later (Some entry) same (mark, there, leaves) =
     let left = entry_left marks number entry mark leaves in
     (mark, same.contained mark (decides_names number mark left.decides) there, left.always later (same.forgotten ∙ left.remembered))
 
--- The entry of a number that is not decided.
+-- The entry of a number that is not finished.
 
 live_same : (marks later : List Mark) (file : JobFile) (number : ℕ) → file.job.number ≡ number → started_at number later ≡ started_at number marks → live_entry later file ≡ live_entry marks file
 live_same marks later file number is same =

@@ -1,7 +1,7 @@
--- What the entry of a number tells of its marks and of its file, and when a folder stays sound.
+-- What the entry of a number tells of its marks and of its file, and when a directory stays sound.
 use Rattle.std.proofs.Common.{◌≡◌, ℕ, ℤ, Bool, true, false, List, Option, Some, None, sym, ap, ◌∙◌, refl}
 use Rattle.std.specs.Prelude.{Contains, MatchBool}
-use Rattle.host_calls.specs.Folder.{Files}
+use Rattle.host_calls.specs.Directory.{Files}
 use Rattle.spool_model.specs.declared.entry.Entry.TheVariants.{Live, Done}
 use Rattle.spool_model.specs.declared.fate.Fate.{Fate}
 use Rattle.spool_model.specs.declared.job.Job.{Job}
@@ -23,7 +23,7 @@ entry_moves number marks later one other entry files same shows = by_test (is_de
   by_test true is done = shows_done later other number entry (same.decided ∙ is) (done_moves number marks later entry same done)
   by_test false is live = shows_live later other number entry (same.decided ∙ is) (live_moves number marks later one other entry files same is live)
 
--- the number is not decided, and its file shows this job in this state
+-- the number is not finished, and its file shows this job in this state
 pub record IsLiveBy (marks : List Mark) (files : Files) (number : ℕ) (job : Job) (state : JobState) : Type 0 where
   pub undecided : is_decided number marks ≡ false
   pub file : JobFile
@@ -55,7 +55,7 @@ live_known marks files number job state shows = by_test (is_decided number marks
         state_is = ap (λ n. state_since (started_at n marks)) (sym number_is) ∙ parts.1;
       }
 
--- the number is decided, and not forgotten
+-- the number is finished, and not forgotten
 pub record IsDoneBy (marks : List Mark) (number : ℕ) : Type 0 where
   pub decided : is_decided number marks ≡ true
   pub remembered : is_forgotten number marks ≡ false
@@ -86,7 +86,7 @@ pub record KeepsSound (marks later : List Mark) (one other : Files) : Type 0 whe
   pub back : (file : JobFile) → IsJobFile later other file → IsJobFile marks one file
   pub started : (number queue : ℕ) (second : ℤ) → Contains later (Started number queue second) → is_decided number later ≡ false → HasFile marks one number queue
 
--- then the folder is as sound as before
+-- then the directory is as sound as before
 pub sound_moves : (last : ℕ) (marks later : List Mark) (one other : Files) → KeepsSound marks later one other → AreSound last marks one → AreSound last later other
 sound_moves last marks later one other keeps sound = record {
   each = λ file is. sound.each file (keeps.back file is);

@@ -1,4 +1,4 @@
--- The table that a folder shows is sound.
+-- The table that a directory shows is sound.
 use Rattle.std.proofs.Common.{◌≡◌, ◌≤◌, ◌<◌, ◌^◌, ℕ, Bool, true, false, List, [], ◌∷◌, length, take, sym, ap, subst, ◌∙◌, inl, inr, arith}
 use Rattle.std.specs.Prelude.{◌==◌, Option, Some, None, IsSome, MatchBool, nat_le}
 use Rattle.std.specs.List.{list_all}
@@ -6,7 +6,7 @@ use Rattle.std.specs.FinMap as map
 use Rattle.std.proofs.lemmas.Bool.{and_parts}
 use Rattle.std.proofs.lemmas.List.{length-take-le}
 use Rattle.std.proofs.lemmas.Bool.Decides.{nat_tests}
-use Rattle.host_calls.specs.Folder.{Files}
+use Rattle.host_calls.specs.Directory.{Files}
 use Rattle.job_name.proofs.NamedJobs.{name_spelled}
 use Rattle.sequence_file.specs.Sequence.{GivesNumber, SpellsIn, sequence_file}
 use Rattle.spool_model.specs.declared.number.TheConstants.{LAST_NUMBER}
@@ -22,7 +22,7 @@ use Rattle.start_journal.proofs.MarkLemmas.{decides_names}
 use Rattle.spool_shows.specs.ByName.{ShowsByName, ShowsDone, ShowsEntry, ShowsLive}
 use Rattle.spool_shows.specs.Laws.{ShownTablesAreSound}
 use Rattle.spool_shows.proofs.ByNameReads.{journal_read}
-use Rattle.spool_shows.proofs.ByNameLemmas.{folders_are_shown_by_name}
+use Rattle.spool_shows.proofs.ByNameLemmas.{directories_are_shown_by_name}
 use Rattle.spool_shows.proofs.EntryLemmas.{done_decides}
 use Rattle.spool_shows.proofs.Membership.{Has, has_contained}
 
@@ -85,7 +85,7 @@ entry_drawn files table is number some = by_entry (entry_at table number) some (
 
 pub shown_tables_are_sound : ShownTablesAreSound
 shown_tables_are_sound files table shows =
-    let is : ShowsByName files table = (folders_are_shown_by_name files table).by_name shows in
+    let is : ShowsByName files table = (directories_are_shown_by_name files table).by_name shows in
     record {
       few = few_of (map.get files sequence_file) table.last is.last;
       each = λ number some. let drawn : (1 ≤ number) × (number ≤ table.last) = entry_drawn files table is number some in record { some = drawn.0; drawn = drawn.1 };

@@ -6,7 +6,7 @@ use Rattle.std.proofs.Math.Nat.{eq-or-lt_of_le}
 use Rattle.std.proofs.lemmas.Bool.{eqb-true}
 use Rattle.std.proofs.lemmas.Bool.Decides.{eqb_tells}
 use Rattle.host_calls.specs.declared.damage.Damage.{Damage}
-use Rattle.host_calls.specs.Folder.{Files}
+use Rattle.host_calls.specs.Directory.{Files}
 use Rattle.start_journal.specs.declared.mark.Mark.{Mark}
 use Rattle.start_journal.specs.declared.mark.Mark.TheVariants.{Removed, Started, Ended, Interrupted, Forgotten, Batch}
 use Rattle.start_journal.specs.Journals.{queue_damage}
@@ -23,7 +23,7 @@ use Rattle.spool_shows.proofs.StartLemmas.{file_found, has_its_file, number_pass
 abbrev pub HaveOneFile : List Mark → Files → Type 0
 HaveOneFile marks files = (one other : JobFile) → IsJobFile marks files one → IsJobFile marks files other → one.job.number ≡ other.job.number → one ≡ other
 
--- what a start that is not decided shows, by its file
+-- what a start that is not finished shows, by its file
 abbrev undecided_damage : ℕ → ℕ → Option JobFile → Bool → Option Damage
 undecided_damage place queue file decided = if decided then None else start_damage place queue file
 
@@ -33,7 +33,7 @@ module _ (marks : List Mark) (files : Files) where
 
   -- the mark at a place is one
   same_mark : (place number queue : ℕ) (mark : Mark) → slice_get marks place ≡ Some mark → (is : IsOpenStart marks place number queue) → mark ≡ Started number queue is.second
-  same_mark place number queue mark there is = let both : Some mark ≡ Some (Started number queue is.second) = sym there ∙ is.stands in cc
+  same_mark place number queue mark there is = let both : Some mark ≡ Some (Started number queue is.second) = sym there ∙ is.holds in cc
 
   -- a mark without damage, if it is such a start, has its file
   fine_mark : (place number queue : ℕ) (mark : Mark) → slice_get marks place ≡ Some mark → mark_damage marks (files_that_count marks files) place mark ≡ None → IsOpenStart marks place number queue → HasFile marks files number queue
@@ -47,7 +47,7 @@ module _ (marks : List Mark) (files : Files) where
     by_test : (decided : Bool) → is_decided number marks ≡ decided → undecided_damage place queue (file_of number (files_that_count marks files)) decided ≡ None
     by_test true decided = refl
     by_test false undecided =
-        let file : HasFile marks files number queue = fine number queue (record { second = second; stands = there; undecided = undecided }) in
+        let file : HasFile marks files number queue = fine number queue (record { second = second; holds = there; undecided = undecided }) in
         ap (start_damage place queue) (ap (λ of. file_of of (files_that_count marks files)) (sym file.number_is) ∙ file_found marks files file.file file.is once)
         ∙ queue_fits place queue file.file file.queue_is
   mark_fine once place (Removed number) there fine = refl
@@ -67,13 +67,13 @@ module _ (marks : List Mark) (files : Files) where
   damaged_start place number queue damage None none is =
       no_file (λ file there same. not_found (λ (of : JobFile). of.job.number == number) (files_that_count marks files) file none (file_is_counted marks files file there) (number_passes file.job.number number same)) cc
   damaged_start place number queue damage (Some file) found is = by_test (file.job.queue == queue) refl is where
-    stands : Has (files_that_count marks files) file × ((file.job.number == number) ≡ true)
-    stands = found_has (λ (of : JobFile). of.job.number == number) (files_that_count marks files) file found
+    holds : Has (files_that_count marks files) file × ((file.job.number == number) ≡ true)
+    holds = found_has (λ (of : JobFile). of.job.number == number) (files_that_count marks files) file found
 
     by_test : (same : Bool) → (file.job.queue == queue) ≡ same → (if same then None else Some (queue_damage place queue)) ≡ Some damage → IsDamagedStart marks files place number queue damage
     by_test true same none = let impossible : None ≡ Some damage = none in cc
     by_test false apart some =
-        other_queue file (counted_is_file marks files file stands.0) (eqb-true file.job.number number stands.1)
+        other_queue file (counted_is_file marks files file holds.0) (eqb-true file.job.number number holds.1)
         (λ same. (let impossible : false ≡ true = sym apart ∙ number_passes file.job.queue queue same in cc)) cc
 
   damaged_mark : (place : ℕ) (damage : Damage) (mark : Mark) → slice_get marks place ≡ Some mark → mark_damage marks (files_that_count marks files) place mark ≡ Some damage → Damaged place damage
@@ -83,7 +83,7 @@ module _ (marks : List Mark) (files : Files) where
     by_test false undecided some = record {
       number = number;
       queue = queue;
-      is = record { second = second; stands = there; undecided = undecided };
+      is = record { second = second; holds = there; undecided = undecided };
       damaged = damaged_start place number queue damage (file_of number (files_that_count marks files)) refl some;
     }
   damaged_mark place damage (Removed number) there is = let impossible : None ≡ Some damage = is in cc
@@ -97,8 +97,8 @@ module _ (marks : List Mark) (files : Files) where
     by_found : (found : Option JobFile) → file_of number (files_that_count marks files) ≡ found → start_damage place queue found ≡ Some damage
     by_found None found = ap Some (sym is)
     by_found (Some file) found =
-        let stands : Has (files_that_count marks files) file × ((file.job.number == number) ≡ true) = found_has (λ (of : JobFile). of.job.number == number) (files_that_count marks files) file found in
-        absurd (none file (counted_is_file marks files file stands.0) (eqb-true file.job.number number stands.1))
+        let holds : Has (files_that_count marks files) file × ((file.job.number == number) ≡ true) = found_has (λ (of : JobFile). of.job.number == number) (files_that_count marks files) file found in
+        absurd (none file (counted_is_file marks files file holds.0) (eqb-true file.job.number number holds.1))
   start_damaged once place number queue damage (other_queue file there same differ is) =
       ap (start_damage place queue) (ap (λ of. file_of of (files_that_count marks files)) (sym same) ∙ file_found marks files file there once)
       ∙ elim (eqb_tells file.job.queue queue) [
@@ -144,7 +144,7 @@ module _ (marks : List Mark) (files : Files) where
   starts_found : HaveOneFile marks files → (place : ℕ) (list : List Mark) (damage : Damage) → StandFrom place list → (is : IsStartDamage marks files damage) → place ≤ is.place → starts_damage marks (files_that_count marks files) place list ≡ Some damage
   starts_found once place [] damage stand is least =
       let same : place + (is.place - place) ≡ is.place = omega arith in
-      let impossible : None ≡ Some (Started is.number is.queue is.is.second) = stand (is.place - place) ∙ ap (slice_get marks) same ∙ is.is.stands in
+      let impossible : None ≡ Some (Started is.number is.queue is.is.second) = stand (is.place - place) ∙ ap (slice_get marks) same ∙ is.is.holds in
       cc
   starts_found once place (mark ∷ later) damage stand is least = elim (eq-or-lt_of_le least) [
     | inl same ↦

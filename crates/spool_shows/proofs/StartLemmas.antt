@@ -1,9 +1,9 @@
--- Starts without damage: each number that is started and not decided has its file.
+-- Starts without damage: each number that is started and not finished has its file.
 use Rattle.std.proofs.Common.{◌≡◌, ℕ, ℤ, ◌+◌, Bool, true, false, List, [], ◌∷◌, sym, ap, ◌∙◌, refl, inl, inr, arith}
 use Rattle.std.specs.Prelude.{◌==◌, Option, Some, None, if◌then◌else◌}
 use Rattle.std.proofs.lemmas.Bool.Decides.{nat_tests}
 use Rattle.host_calls.specs.declared.damage.Damage.{Damage}
-use Rattle.host_calls.specs.Folder.{Files}
+use Rattle.host_calls.specs.Directory.{Files}
 use Rattle.start_journal.specs.declared.mark.Mark.{Mark}
 use Rattle.start_journal.specs.declared.mark.Mark.TheVariants.{Removed, Started, Ended, Interrupted, Forgotten, Batch}
 use Rattle.start_journal.specs.Journals.{gate_damage, queue_damage}
@@ -44,14 +44,14 @@ file_there place queue (Some file) is = by_test (file.job.queue == queue) refl i
   by_test true test none = (file, refl, eqb-true _ _ test)
   by_test false test none = let impossible : Some (queue_damage place queue) ≡ None = none in cc
 
--- a start that is not decided, and without damage, has its file
+-- a start that is not finished, and without damage, has its file
 pub has_its_file : (marks : List Mark) (files : Files) (at number queue : ℕ) (second : ℤ) → mark_damage marks (files_that_count marks files) at (Started number queue second) ≡ None → is_decided number marks ≡ false → HasFile marks files number queue
 has_its_file marks files at number queue second whole undecided =
     let here : start_damage at queue (file_of number (files_that_count marks files)) ≡ None =
     sym (ap (λ b. if b then None else start_damage at queue (file_of number (files_that_count marks files))) undecided) ∙ whole in
     let found : (file : JobFile) × (file_of number (files_that_count marks files) ≡ Some file) × (file.job.queue ≡ queue) = file_there at queue _ here in
-    let stands : Has (files_that_count marks files) found.0 × ((found.0.job.number == number) ≡ true) = found_has (λ (file : JobFile). file.job.number == number) (files_that_count marks files) found.0 found.1 in
-    record { file = found.0; is = counted_is_file marks files found.0 stands.0; number_is = eqb-true _ _ stands.1; queue_is = found.2 }
+    let holds : Has (files_that_count marks files) found.0 × ((found.0.job.number == number) ≡ true) = found_has (λ (file : JobFile). file.job.number == number) (files_that_count marks files) found.0 found.1 in
+    record { file = found.0; is = counted_is_file marks files found.0 holds.0; number_is = eqb-true _ _ holds.1; queue_is = found.2 }
 
 -- the file of a start
 pub start_has_file : (marks : List Mark) (files : Files) (number queue : ℕ) (second : ℤ) → starts_damage marks (files_that_count marks files) 0 marks ≡ None → Has marks (Started number queue second) → is_decided number marks ≡ false → HasFile marks files number queue
@@ -65,8 +65,8 @@ file_found marks files file is once = by_found (file_of file.job.number (files_t
   by_found : (found : Option JobFile) → file_of file.job.number (files_that_count marks files) ≡ found → file_of file.job.number (files_that_count marks files) ≡ Some file
   by_found None none = absurd (not_found (λ (of : JobFile). of.job.number == file.job.number) (files_that_count marks files) file none (file_is_counted marks files file is) (number_passes _ _ refl))
   by_found (Some other) found =
-      let stands : Has (files_that_count marks files) other × ((other.job.number == file.job.number) ≡ true) = found_has (λ (of : JobFile). of.job.number == file.job.number) (files_that_count marks files) other found in
-      found ∙ ap Some (once other file (counted_is_file marks files other stands.0) is (eqb-true _ _ stands.1))
+      let holds : Has (files_that_count marks files) other × ((other.job.number == file.job.number) ≡ true) = found_has (λ (of : JobFile). of.job.number == file.job.number) (files_that_count marks files) other found in
+      found ∙ ap Some (once other file (counted_is_file marks files other holds.0) is (eqb-true _ _ holds.1))
 
 pub queue_fits : (place queue : ℕ) (file : JobFile) → file.job.queue ≡ queue → start_damage place queue (Some file) ≡ None
 queue_fits place queue file same = rw (number_passes file.job.queue queue same) refl

@@ -1,11 +1,11 @@
--- The laws of changes, of what a folder shows.
-use Rattle.host_calls.specs.Folder.{Files}
+-- The laws of changes, of what a directory shows.
+use Rattle.host_calls.specs.Directory.{Files}
 use Rattle.spool_model.specs.JobTable.{JobTable}
 use Rattle.spool_shows.specs.ByName.{ShowsByName}
 use Rattle.spool_shows.specs.Laws.{AcceptsAreShown, CompactionsAreShown, DrawsAreShown, LegalStepsAddLegalMarks, MarksAreShown, RewritesAreShown}
 use Rattle.spool_shows.specs.Shown.{Shows}
 use Rattle.spool_shows.proofs.AcceptLemmas.{accepted_by_name}
-use Rattle.spool_shows.proofs.ByNameLemmas.{folders_are_shown_by_name}
+use Rattle.spool_shows.proofs.ByNameLemmas.{directories_are_shown_by_name}
 use Rattle.spool_shows.proofs.Compacted.{compacted_by_name}
 use Rattle.spool_shows.proofs.DrawLemmas.{drawn_by_name}
 use Rattle.spool_shows.proofs.RewriteLemmas.{rewritten_by_name}
@@ -14,10 +14,10 @@ use Rattle.spool_shows.proofs.StepMarks.{marked_by_name}
 
 -- to and from the names and numbers
 pub by_name : (files : Files) (table : JobTable) → Shows files table → ShowsByName files table
-by_name files table = (folders_are_shown_by_name files table).by_name
+by_name files table = (directories_are_shown_by_name files table).by_name
 
 pub shown : (files : Files) (table : JobTable) → ShowsByName files table → Shows files table
-shown files table = (folders_are_shown_by_name files table).shown
+shown files table = (directories_are_shown_by_name files table).shown
 
 pub draws_are_shown : DrawsAreShown
 draws_are_shown before after table shows drawn = shown after _ (drawn_by_name before after table (by_name before table shows) drawn)

@@ -1,7 +1,7 @@
--- A step that is legal on a table adds a mark that is legal after those of a folder that shows it.
+-- A step that is legal on a table adds a mark that is legal after those of a directory that shows it.
 use Rattle.std.proofs.Common.{◌≡◌, ℕ, ℤ, true, false, List, Some, None, sym, ap, subst, ◌∙◌}
 use Rattle.std.specs.Prelude.{◌||◌, is_some}
-use Rattle.host_calls.specs.Folder.{Files}
+use Rattle.host_calls.specs.Directory.{Files}
 use Rattle.spool_model.specs.declared.state.State.TheVariants.{Pending, Running}
 use Rattle.spool_model.specs.declared.step.Step.{Step}
 use Rattle.spool_model.specs.declared.step.Step.TheVariants.{Remove, Start, End, Interrupt, Forget}
@@ -18,7 +18,7 @@ use Rattle.spool_shows.proofs.OneMark.{had_same, marks_legal}
 use Rattle.spool_shows.proofs.ShownStates.{IsDoneBy, IsLiveBy, not_started, started_then}
 use Rattle.spool_shows.proofs.StepMarks.{done_in, live_in}
 
--- A number that is not decided, not forgotten and not started is named by no mark.
+-- A number that is not finished, not forgotten and not started is named by no mark.
 
 pub unnamed : (number : ℕ) (marks : List Mark) → is_decided number marks ≡ false → is_forgotten number marks ≡ false → started_at number marks ≡ None → has_mark_of number marks ≡ false
 unnamed number marks undecided remembered none =

@@ -1,10 +1,10 @@
--- A step that is legal on a table, with its mark in the journal, leads from a folder that shows the
+-- A step that is legal on a table, with its mark in the journal, leads from a directory that shows the
 -- table to one that shows the table after the step.
 use Rattle.std.proofs.Common.{◌≡◌, ℕ, ℤ, Bool, true, false, cond, List, Option, Some, None, [], ◌∷◌, ◌++◌, sym, ap, subst, ◌∙◌, refl}
 use Rattle.std.specs.Prelude.{◌==◌, if◌then◌else◌}
 use Rattle.std.specs.FinMap as map
 use Rattle.std.specs.Option.{option_or}
-use Rattle.host_calls.specs.Folder.{Files}
+use Rattle.host_calls.specs.Directory.{Files}
 use Rattle.spool_model.specs.declared.entry.Entry.TheVariants.{Live, Done}
 use Rattle.spool_model.specs.declared.fate.Fate.{Fate}
 use Rattle.spool_model.specs.declared.fate.Fate.TheVariants as fate
@@ -19,7 +19,7 @@ use Rattle.start_journal.specs.declared.mark.Mark.{Mark}
 use Rattle.start_journal.specs.declared.mark.Mark.TheVariants as mark
 use Rattle.start_journal.specs.Marks.{batch_second, decides, first_of_two, is_forgetting, is_forgotten, is_mark_of, start_second, started_at}
 use Rattle.spool_shows.specs.ByName.{HasFile, ShowsByName, ShowsEntry}
-use Rattle.spool_shows.specs.Deciding.{decision_mark}
+use Rattle.spool_shows.specs.FateSteps.{decision_mark}
 use Rattle.spool_shows.specs.JobFiles.{JobFile}
 use Rattle.spool_shows.specs.Laws.{AddsMark, HasMarked}
 use Rattle.spool_shows.specs.Shown.{done_entry, job_of, live_entry, state_since}
@@ -48,7 +48,7 @@ silent_other number other differ = fails_other number other (λ same. differ (sy
 -- the mark decides the number by this fate, and says nothing else
 record DecidesBy (number : ℕ) (fate : Fate) (added : Mark) : Type 0 where
   batch : batch_second added ≡ None
-  silent : (other : ℕ) → ¬ (other ≡ number) → is_mark_of other added ≡ false
+  unchecked : (other : ℕ) → ¬ (other ≡ number) → is_mark_of other added ≡ false
   decides_it : decides number added ≡ true
   forgets_not : is_forgetting number added ≡ false
   leaves : (list : List Mark) → is_forgotten number list ≡ false → done_entry list added ≡ Some (number, Done fate)
@@ -61,7 +61,7 @@ decided_step before after table number fate added job state shows is decides_by 
     let live : IsLiveBy marks before number job state = live_in before table number job state shows is in
     step_shown before after table (map.insert table.entries number (Done fate)) table.last_batch added number shows marked (record {
       batch = ap (λ batch. first_of_two batch table.last_batch) (sym decides_by.batch);
-      silent = decides_by.silent;
+      unchecked = decides_by.unchecked;
       kept = λ other differ. get-put_other table.entries number other (Done fate) differ;
       here = subst (ShowsEntry (marks ++ added ∷ []) after number) (sym (get-put_same table.entries number (Done fate)))
           (decided_shown marks after added number fate decides_by.decides_it decides_by.forgets_not (not_forgotten marks number (marks_legal before table shows) live.undecided) decides_by.leaves);
@@ -70,9 +70,9 @@ decided_step before after table number fate added job state shows is decides_by 
 
 -- the mark of each decision does
 decides_by : (number : ℕ) (fate : Fate) → DecidesBy number fate (decision_mark number fate)
-decides_by number fate.Removed = record { batch = refl; silent = silent_other number; decides_it = passes_same number number refl; forgets_not = refl; leaves = λ list remembered. leaves_as list number number fate.Removed refl remembered; no_start = λ other queue second same. cc }
-decides_by number (fate.Finished ending) = record { batch = refl; silent = silent_other number; decides_it = passes_same number number refl; forgets_not = refl; leaves = λ list remembered. leaves_as list number number (fate.Finished ending) refl remembered; no_start = λ other queue second same. cc }
-decides_by number fate.Interrupted = record { batch = refl; silent = silent_other number; decides_it = passes_same number number refl; forgets_not = refl; leaves = λ list remembered. leaves_as list number number fate.Interrupted refl remembered; no_start = λ other queue second same. cc }
+decides_by number fate.Removed = record { batch = refl; unchecked = silent_other number; decides_it = passes_same number number refl; forgets_not = refl; leaves = λ list remembered. leaves_as list number number fate.Removed refl remembered; no_start = λ other queue second same. cc }
+decides_by number (fate.Finished ending) = record { batch = refl; unchecked = silent_other number; decides_it = passes_same number number refl; forgets_not = refl; leaves = λ list remembered. leaves_as list number number (fate.Finished ending) refl remembered; no_start = λ other queue second same. cc }
+decides_by number fate.Interrupted = record { batch = refl; unchecked = silent_other number; decides_it = passes_same number number refl; forgets_not = refl; leaves = λ list remembered. leaves_as list number number fate.Interrupted refl remembered; no_start = λ other queue second same. cc }
 
 -- The step that forgets a number.
 
@@ -83,7 +83,7 @@ forget_shown before after table number shows (fate, is) marked =
     let added : Mark = mark.Forgotten number in
     step_shown before after table (map.remove table.entries number) table.last_batch added number shows marked (record {
       batch = refl;
-      silent = silent_other number;
+      unchecked = silent_other number;
       kept = λ other differ. get-taken_other table.entries number other differ;
       here = subst (ShowsEntry (marks ++ added ∷ []) after number) (sym (get-taken_same table.entries number))
           (shows_done (marks ++ added ∷ []) after number None (any_without (decides number) marks added refl ∙ done.decided) (any_with (is_forgetting number) marks added (passes_same number number refl)));
@@ -136,7 +136,7 @@ start_shown before after table number second job shows is marked =
     (live.file, file_moves marks (marks ++ added ∷ []) before after (same_jobs before after marked.others) live.file live.is (any_without (decides live.file.job.number) marks added refl ∙ live.is.undecided), live_is (marks ++ added ∷ []) live.file number job (Running second) live.number_is live.job_is (ap state_since since)) in
     step_shown before after table entries (if is_batch_entry (entry_at table number) then Some second else table.last_batch) added number shows marked (record {
       batch = ap (λ entry. if is_batch_entry entry then Some second else table.last_batch) is ∙ batch_since (is_batch_queue job.queue) second table.last_batch;
-      silent = silent_other number;
+      unchecked = silent_other number;
       kept = λ other differ. ap (λ list. map.get list other) entries_is ∙ get-put_other table.entries number other (Live job (Running second)) differ;
       here = subst (ShowsEntry (marks ++ added ∷ []) after number) (sym (ap (λ list. map.get list number) entries_is ∙ get-put_same table.entries number (Live job (Running second)))) running;
       starts = λ other queue since same.

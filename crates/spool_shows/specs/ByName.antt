@@ -1,7 +1,7 @@
--- What a folder shows, said name by name and number by number (own), with no order of the files.
+-- What a directory shows, said name by name and number by number (own), with no order of the files.
 use Rattle.std.specs.Prelude.{◌≡◌, ◌≤◌, ℕ, ℤ, true, false, List, Option, Some, None, IsSome, MatchBool, Contains}
 use Rattle.std.specs.FinMap as map
-use Rattle.host_calls.specs.Folder.{Files}
+use Rattle.host_calls.specs.Directory.{Files}
 use Rattle.job_script.specs.HeaderIn.{header_in}
 use Rattle.sequence_file.specs.Sequence.{GivesNumber, sequence_file}
 use Rattle.spool_model.specs.JobTable.{JobEntry, JobTable, entry_at}
@@ -14,7 +14,7 @@ use Rattle.spool_shows.specs.JobFiles.{JobFile}
 use Rattle.job_name.specs.JobName.{job_named}
 use Rattle.spool_shows.specs.Shown.{done_entry, live_entry}
 
--- the file is there under the name of a job whose number is not decided
+-- the file exists under the name of a job whose number is not finished
 pub record IsJobFile (marks : List Mark) (files : Files) (file : JobFile) : Type 0 where
   pub held : map.get files file.name ≡ Some file.bytes
   pub named : job_named file.name ≡ Some file.job
@@ -41,12 +41,12 @@ pub record AreSound (last : ℕ) (marks : List Mark) (files : Files) : Type 0 wh
   pub started : (number queue : ℕ) (second : ℤ) → Contains marks (Started number queue second) →
       is_decided number marks ≡ false → HasFile marks files number queue
 
--- the entry of a number that is decided: none once it was forgotten, else what its mark leaves
+-- the entry of a number that is finished: none once it was forgotten, else what its mark leaves
 abbrev pub ShowsDone : List Mark → ℕ → Option JobEntry → Type 0
 ShowsDone marks number None = is_forgotten number marks ≡ true
 ShowsDone marks number (Some entry) = (mark : Mark) × Contains marks mark × (done_entry marks mark ≡ Some (number, entry))
 
--- the entry of a number that is not decided: that of its file, none where it has none
+-- the entry of a number that is not finished: that of its file, none where it has none
 abbrev pub ShowsLive : List Mark → Files → ℕ → Option JobEntry → Type 0
 ShowsLive marks files number None = (file : JobFile) → IsJobFile marks files file → ¬ (file.job.number ≡ number)
 ShowsLive marks files number (Some entry) = (file : JobFile) × IsJobFile marks files file ×
@@ -57,7 +57,7 @@ abbrev pub ShowsEntry : List Mark → Files → ℕ → Option JobEntry → Type
 ShowsEntry marks files number entry =
     MatchBool (is_decided number marks) (ShowsDone marks number entry) (ShowsLive marks files number entry)
 
--- The folder shows the table, by each of its names and numbers.
+-- The directory shows the table, by each of its names and numbers.
 pub record ShowsByName (files : Files) (table : JobTable) : Type 0 where
   pub read : JournalRead
   pub last : GivesNumber (map.get files sequence_file) table.last

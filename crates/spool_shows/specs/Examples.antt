@@ -1,4 +1,4 @@
--- Small folders and what they show, by computing.
+-- Small directories and what they show, by computing.
 use Rattle.std.specs.Prelude.{◌≡◌, ◌++◌, [], ◌∷◌, ℕ, pos, List, Option, Some, None, Ok, Err, codes}
 use Rattle.std.specs.FinMap.{from_entries}
 use Rattle.host_calls.specs.declared.child.Ending.TheVariants.{Exit}
@@ -76,8 +76,8 @@ with_both state = table_of 2 (from_entries ((2, live Pending) ∷ (1, live state
 abbrev pub damaged : List ℕ → ℕ → Option ℕ → Damage
 damaged name offset byte = record { name = name; offset = offset; byte = byte }
 
--- tables that small folders show
-pub record SmallFoldersShow : Type 0 where
+-- tables that small directories show
+pub record SmallDirectoriesShow : Type 0 where
   pub nothing : shown (deny ∷ []) ≡ Ok (without_jobs 0)
   pub drawn : shown (sequence (codes "00001\n") ∷ deny ∷ []) ≡ Ok (without_jobs 1)
   pub pending : shown (sequence (codes "00001\n") ∷ first_job ∷ deny ∷ []) ≡ Ok (with_first (live Pending))
@@ -93,8 +93,8 @@ pub record SmallFoldersShow : Type 0 where
   pub new_form_name_alone : shown (sequence (codes "00001\n") ∷ first_job_new_form ∷ []) ≡ Ok (with_first (live Pending))
   pub other_names : shown (sequence (codes "00001\n") ∷ (codes "README", codes "x") ∷ first_job ∷ []) ≡ Ok (with_first (live Pending))
 
--- damage that small folders show
-pub record SmallFoldersAreDamaged : Type 0 where
+-- damage that small directories show
+pub record SmallDirectoriesAreDamaged : Type 0 where
   pub sequence_digit : shown (sequence (codes "0000g\n") ∷ []) ≡ Err (damaged sequence_file 4 (Some 103))
   pub sequence_short : shown (sequence (codes "00001") ∷ []) ≡ Err (damaged sequence_file 5 None)
   pub sequence_long : shown (sequence (codes "00001\n\n") ∷ []) ≡ Err (damaged sequence_file 6 (Some 10))
@@ -120,8 +120,8 @@ pub record SmallFoldersAreDamaged : Type 0 where
   pub new_form_after_old_form : shown (sequence (codes "00000001\n") ∷ first_job ∷ (codes "b0000000101b968a0", script) ∷ []) ≡ Err (damaged (codes "b0000000101b968a0") 0 (Some 35))
   pub new_form_not_drawn : shown (sequence (codes "00000001\n") ∷ second_job ∷ []) ≡ Err (damaged second_job.0 0 (Some 35))
 
--- what folders show by the old form alone
-pub record SmallFoldersShowOldForm : Type 0 where
+-- what directories show by the old form alone
+pub record SmallDirectoriesShowOldForm : Type 0 where
   pub nothing : old_form_shown (deny ∷ []) ≡ Ok (without_jobs 0)
   pub pending : old_form_shown (sequence (codes "00001\n") ∷ first_job ∷ deny ∷ []) ≡ Ok (with_first (live Pending))
   pub running : old_form_shown (journal started ∷ sequence (codes "00001\n") ∷ first_job ∷ []) ≡ Ok (with_first (live (Running (pos 1735689600))))

@@ -1,11 +1,11 @@
--- The first damage of a folder (own), by names and places: of the sequence file, of the journal, of the files of
+-- The first damage of a directory (own), by names and places: of the sequence file, of the journal, of the files of
 -- jobs in byte order of their names, or of the starts in the order of their marks.
 use Rattle.std.specs.Prelude.{◌≡◌, ◌≤◌, ◌<◌, false, ℕ, ℤ, List, Some, slice_get}
 use Rattle.std.specs.declared.cmp.Ordering.TheVariants.{Less}
 use Rattle.std.specs.FinMap as map
 use Rattle.host_calls.specs.declared.damage.Damage.{Damage}
 use Rattle.host_calls.specs.Damages.{damage_at}
-use Rattle.host_calls.specs.Folder.{Files, name_cmp}
+use Rattle.host_calls.specs.Directory.{Files, name_cmp}
 use Rattle.job_script.specs.Header.{IsHeaderFault}
 use Rattle.sequence_file.specs.Faults.{IsSequenceDamage}
 use Rattle.sequence_file.specs.Sequence.{GivesNumber, sequence_file}
@@ -65,7 +65,7 @@ pub record IsFileDamage (last : ℕ) (marks : List Mark) (files : Files) (damage
 -- the mark at this place of the journal starts the number in this queue, and no mark decides it
 pub record IsOpenStart (marks : List Mark) (place number queue : ℕ) : Type 0 where
   pub second : ℤ
-  pub stands : slice_get marks place ≡ Some (Started number queue second)
+  pub holds : slice_get marks place ≡ Some (Started number queue second)
   pub undecided : is_decided number marks ≡ false
 
 -- The damage of such a start, and why.
@@ -86,7 +86,7 @@ pub record IsStartDamage (marks : List Mark) (files : Files) (damage : Damage) :
   pub earlier : (other number queue : ℕ) → other < place → IsOpenStart marks other number queue → HasFile marks files number queue
   pub damaged : IsDamagedStart marks files place number queue damage
 
--- The first damage of the folder.
+-- The first damage of the directory.
 pub data IsFirstDamage (files : Files) (damage : Damage) : Type 0 where
   -- of the sequence file
   of_sequence : IsSequenceDamage (map.get files sequence_file) damage → IsFirstDamage files damage

@@ -1,4 +1,4 @@
--- The files of jobs in a spool folder (own): which count, and where they are damaged.
+-- The files of jobs in a spool directory (own): which count, and where they are damaged.
 use Rattle.std.specs.Prelude.{◌==◌, ◌||◌, [], ◌∷◌, ℕ, Bool, false, not, List, Option, Some, None, nat_lt, if◌then◌else◌}
 use Rattle.std.specs.List.{filter, filter_map, find, list_any}
 use Rattle.std.specs.Option.{option_or}
@@ -9,7 +9,7 @@ use Rattle.start_journal.specs.Marks.{is_decided}
 use Rattle.host_calls.specs.Damages.{damage_at}
 use Rattle.job_name.specs.JobName.{NamedJob, job_named}
 
--- a job's file counts as long as its number is not decided
+-- a job's file counts as long as its number is not finished
 abbrev pub counts_as : List Mark → Option NamedJob → Bool
 counts_as marks (Some job) = not (is_decided job.number marks)
 counts_as marks None = false
@@ -29,7 +29,7 @@ abbrev pub file_named : List ℕ → List ℕ → Option NamedJob → Option Job
 file_named name bytes (Some job) = Some (record { name = name; job = job; bytes = bytes })
 file_named name bytes None = None
 
--- that of an entry of the folder
+-- that of an entry of the directory
 abbrev pub job_file : List ℕ × List ℕ → Option JobFile
 job_file file = file_named file.0 file.1 (job_named file.0)
 

@@ -1,8 +1,8 @@
--- What holds of every folder, and of every change that a step of the job table makes to one.
+-- What holds of every directory, and of every change that a step of the job table makes to one.
 use Rattle.std.specs.Prelude.{◌≡◌, ◌⊎◌, ◌+◌, ◌++◌, [], ◌∷◌, ℕ, Bool, true, List, Some, None, Ok, Err}
 use Rattle.std.specs.FinMap as map
 use Rattle.host_calls.specs.declared.damage.Damage.{Damage}
-use Rattle.host_calls.specs.Folder.{Files}
+use Rattle.host_calls.specs.Directory.{Files}
 use Rattle.job_script.specs.HeaderIn.{header_in}
 use Rattle.sequence_file.specs.Sequence.{sequence_file}
 use Rattle.whole_file.specs.Temporary.{temporary_file}
@@ -24,16 +24,16 @@ use Rattle.job_name.specs.JobName.{NamedJob, job_named}
 use Rattle.sequence_file.specs.LastNumber.{last_in}
 use Rattle.spool_shows.specs.Shown.{Shows, shown_by}
 
--- what a folder shows, and what its names and numbers show, are one
+-- what a directory shows, and what its names and numbers show, are one
 pub record IsShownByName (files : Files) (table : JobTable) : Type 0 where
   pub by_name : Shows files table → ShowsByName files table
   pub shown : ShowsByName files table → Shows files table
 
--- for every folder and table
-abbrev pub FoldersAreShownByName : Type 0
-FoldersAreShownByName = (files : Files) (table : JobTable) → IsShownByName files table
+-- for every directory and table
+abbrev pub DirectoriesAreShownByName : Type 0
+DirectoriesAreShownByName = (files : Files) (table : JobTable) → IsShownByName files table
 
--- a table that a folder shows is sound
+-- a table that a directory shows is sound
 abbrev pub ShownTablesAreSound : Type 0
 ShownTablesAreSound = (files : Files) (table : JobTable) → Shows files table → IsSound table
 
@@ -41,35 +41,35 @@ ShownTablesAreSound = (files : Files) (table : JobTable) → Shows files table �
 abbrev pub HasItsHeader : Job → Type 0
 HasItsHeader job = (mail : Bool) × (header_in job.script ≡ Some (job.user, mail))
 
--- so does the script of each live job of a table that a folder shows
+-- so does the script of each live job of a table that a directory shows
 abbrev pub ShownJobsHaveHeaders : Type 0
 ShownJobsHaveHeaders = (files : Files) (table : JobTable) (number : ℕ) (job : Job) (state : JobState) → Shows files table →
     entry_at table number ≡ Some (Live job state) → HasItsHeader job
 
--- the folder shows a damage, or a table that has no entry
+-- the directory shows a damage, or a table that has no entry
 abbrev pub ShowsNoEntry : Files → Type 0
 ShowsNoEntry files = ((damage : Damage) × (shown_by files ≡ Err damage)) ⊎
     ((table : JobTable) × Shows files table × ((number : ℕ) → entry_at table number ≡ None))
 
--- so does each folder without a sequence file, whatever else it has
-abbrev pub FoldersWithoutSequenceShowNoEntry : Type 0
-FoldersWithoutSequenceShowNoEntry = (files : Files) → map.get files sequence_file ≡ None → ShowsNoEntry files
+-- so does each directory without a sequence file, whatever else it has
+abbrev pub DirectoriesWithoutSequenceShowNoEntry : Type 0
+DirectoriesWithoutSequenceShowNoEntry = (files : Files) → map.get files sequence_file ≡ None → ShowsNoEntry files
 
--- the journal of the folder gives these marks
+-- the journal of the directory gives these marks
 pub record HasMarks (files : Files) (marks : List Mark) : Type 0 where
   pub last : ℕ
   pub free : ℕ
   pub number : last_in (map.get files sequence_file) ≡ Ok last
   pub journal : journal_in last (map.get files journal_file) ≡ Ok (record { marks = marks; free = free })
 
--- the folders agree at the sequence file, at the journal, and at the files of jobs that count
+-- the directories agree at the sequence file, at the journal, and at the files of jobs that count
 pub record AgreeOnJobs (one other : Files) : Type 0 where
   pub sequence : map.get other sequence_file ≡ map.get one sequence_file
   pub journal : map.get other journal_file ≡ map.get one journal_file
   pub jobs : (marks : List Mark) → HasMarks one marks → (name : List ℕ) → counts marks name ≡ true →
       map.get other name ≡ map.get one name
 
--- other files, among them those of decided numbers, count for nothing
+-- other files, among them those of finished numbers, count for nothing
 abbrev pub OtherFilesCountForNothing : Type 0
 OtherFilesCountForNothing = (one other : Files) → AgreeOnJobs one other → shown_by other ≡ shown_by one
 

@@ -1,6 +1,6 @@
 pub mod ByName
 pub mod DamageLaws
-pub mod Deciding
+pub mod FateSteps
 pub mod Examples
 pub mod FirstDamage
 pub mod JobFiles

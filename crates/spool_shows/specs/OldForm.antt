@@ -1,14 +1,14 @@
--- What a folder shows by the old form alone (own): job names of 14 bytes with five digits of the number, and a
--- sequence file of five digits. So spools were read before numbers of eight digits. All else is as now. A folder in
--- which no file has a name of the new form shows the same table now.
+-- What a directory shows by the old form alone (own): job names of 14 bytes with five digits of the number, and a
+-- sequence file of five digits. So spools were read before numbers of eight digits. All else is as now. A directory
+-- in which no file has a name of the new form shows the same table now.
 use Rattle.std.specs.Prelude.{◌≡◌, ◌==◌, ◌&&◌, ℕ, true, false, List, Option, Some, None, Result, Ok, Err, length, take, slice_index, slice_range, if◌then◌else◌}
 use Rattle.std.specs.FinMap as map
 use Rattle.std.specs.FinMap.{entries, find}
 use Rattle.std.specs.List.{filter, filter_map}
-use Rattle.hex_digits.specs.Values.{number_in}
+use Rattle.text_reader.specs.HexValues.{number_in}
 use Rattle.host_calls.specs.declared.damage.Damage.{Damage}
 use Rattle.host_calls.specs.Damages.{damage_at}
-use Rattle.host_calls.specs.Folder.{Files, name_cmp}
+use Rattle.host_calls.specs.Directory.{Files, name_cmp}
 use Rattle.job_name.specs.JobName.{NamedJob, SpellsJobName, job_in_range}
 use Rattle.sequence_file.specs.LastNumber.{fitting}
 use Rattle.sequence_file.specs.Sequence.{sequence_file}
@@ -39,7 +39,7 @@ abbrev pub old_form_last_in : Option (List ℕ) → Result ℕ Damage
 old_form_last_in None = Ok 0
 old_form_last_in (Some bytes) = old_form_number_or_damage bytes (old_form_sequence_in bytes)
 
--- the file of an entry of the folder, if it is that of a job
+-- the file of an entry of the directory, if it is that of a job
 abbrev pub old_form_job_file : List ℕ × List ℕ → Option JobFile
 old_form_job_file file = file_named file.0 file.1 (old_form_job_named file.0)
 
@@ -58,15 +58,15 @@ abbrev pub old_form_after_last : Result ℕ Damage → List (List ℕ × List �
 old_form_after_last (Err damage) files = Err damage
 old_form_after_last (Ok last) files = old_form_after_journal last (journal_in last (find name_cmp journal_file files)) files
 
--- what files show that stand in byte order of their names
+-- what files show that are in byte order of their names
 abbrev pub old_form_shown : List (List ℕ × List ℕ) → Result JobTable Damage
 old_form_shown files = old_form_after_last (old_form_last_in (find name_cmp sequence_file files)) files
 
--- what a folder shows
+-- what a directory shows
 unfoldable pub old_form_shown_by : Files → Result JobTable Damage
 old_form_shown_by files = old_form_shown (entries files)
 
--- the folder shows the table by the old form alone
+-- the directory shows the table by the old form alone
 abbrev pub ShowsOldForm : Files → JobTable → Type 0
 ShowsOldForm files table = old_form_shown_by files ≡ Ok table
 
@@ -80,6 +80,6 @@ abbrev pub OldFormTablesAreShown : Type 0
 OldFormTablesAreShown = (files : Files) (table : JobTable) → HasNoNewFormName files → ShowsOldForm files table → Shows files table
 
 -- without names in the new form, and with a last number in the old form, what is shown is the same, be it a table or a damage
-abbrev pub OldFormFoldersShowTheSame : Type 0
-OldFormFoldersShowTheSame = (files : Files) (last : ℕ) → HasNoNewFormName files →
+abbrev pub OldFormDirectoriesShowTheSame : Type 0
+OldFormDirectoriesShowTheSame = (files : Files) (last : ℕ) → HasNoNewFormName files →
     old_form_last_in (map.get files sequence_file) ≡ Ok last → shown_by files ≡ old_form_shown_by files

@@ -1,13 +1,13 @@
--- What a folder shows (own): one job table, or one damage. A function of the files: no order of calls is in it.
+-- What a directory shows (own): one job table, or one damage. A function of the files: no order of calls is in it.
 --
 -- The checks go in this order, and the first fault counts: the sequence file, the journal, the files of
--- jobs in byte order of their names, and the numbers that are started and not decided.
+-- jobs in byte order of their names, and the numbers that are started and not finished.
 use Rattle.std.specs.Prelude.{◌+◌, ◌==◌, ◌++◌, ◌≡◌, [], ◌∷◌, ℕ, ℤ, Bool, List, Option, Some, None, Result, Ok, Err, map, if◌then◌else◌}
 use Rattle.std.specs.FinMap.{entries, find, from_entries}
 use Rattle.std.specs.List.{filter_map}
 use Rattle.std.specs.Option.{option_or}
 use Rattle.host_calls.specs.declared.damage.Damage.{Damage}
-use Rattle.host_calls.specs.Folder.{Files, name_cmp}
+use Rattle.host_calls.specs.Directory.{Files, name_cmp}
 use Rattle.job_script.specs.HeaderIn.{header_in}
 use Rattle.sequence_file.specs.Sequence.{sequence_file}
 use Rattle.spool_model.specs.declared.entry.Entry.TheVariants.{Live, Done}
@@ -23,7 +23,7 @@ use Rattle.start_journal.specs.Marks.{is_decided, is_forgotten, last_batch, star
 use Rattle.spool_shows.specs.JobFiles.{JobFile, file_of, files_damage, job_files}
 use Rattle.sequence_file.specs.LastNumber.{last_in}
 
--- Numbers that are started and not decided.
+-- Numbers that are started and not finished.
 
 -- the damage of the journal at the slot of a start, whose job has this file or none
 abbrev pub start_damage : ℕ → ℕ → Option JobFile → Option Damage
@@ -31,7 +31,7 @@ start_damage place queue None = Some (gate_damage place)
 start_damage place queue (Some file) =
     if file.job.queue == queue then None else Some (queue_damage place queue)
 
--- the damage that a mark at this place of the journal shows: its job is started and not decided, and
+-- the damage that a mark at this place of the journal shows: its job is started and not finished, and
 -- has no file, or one of another queue
 abbrev pub mark_damage : List Mark → List JobFile → ℕ → Mark → Option Damage
 mark_damage marks files place (Started number queue second) =
@@ -82,7 +82,7 @@ done_entry marks (Started number queue second) = None
 done_entry marks (Forgotten number) = None
 done_entry marks (Batch second) = None
 
--- the entries: of the files that count, and of the numbers that are decided
+-- the entries: of the files that count, and of the numbers that are finished
 abbrev pub entries_shown : List Mark → List JobFile → List (ℕ × JobEntry)
 entries_shown marks files = map (live_entry marks) files ++ filter_map (done_entry marks) marks
 
@@ -90,7 +90,7 @@ entries_shown marks files = map (live_entry marks) files ++ filter_map (done_ent
 abbrev pub table_shown : ℕ → List Mark → List JobFile → JobTable
 table_shown last marks files = table_of last (from_entries (entries_shown marks files)) (last_batch marks)
 
--- What a folder shows.
+-- What a directory shows.
 
 -- the first damage of files that count and of starts
 abbrev pub damage_of_jobs : ℕ → List Mark → List JobFile → Option Damage
@@ -115,14 +115,14 @@ abbrev pub shown_after_last : Result ℕ Damage → List (List ℕ × List ℕ) 
 shown_after_last (Err damage) files = Err damage
 shown_after_last (Ok last) files = shown_after_journal last (journal_in last (find name_cmp journal_file files)) files
 
--- what files show that stand in byte order of their names
+-- what files show that are in byte order of their names
 abbrev pub shown : List (List ℕ × List ℕ) → Result JobTable Damage
 shown files = shown_after_last (last_in (find name_cmp sequence_file files)) files
 
--- what a folder shows
+-- what a directory shows
 unfoldable pub shown_by : Files → Result JobTable Damage
 shown_by files = shown (entries files)
 
--- the folder shows the table
+-- the directory shows the table
 abbrev pub Shows : Files → JobTable → Type 0
 Shows files table = shown_by files ≡ Ok table

@@ -1,43 +1,43 @@
-//! What holds of every folder, each law as the contract of a function.
-ghost use Rattle.spool_shows.specs.DamageLaws.{FoldersShowTheirFirstDamage, UndamagedFoldersShowTables};
-ghost use Rattle.spool_shows.specs.Examples.{SmallFoldersAreDamaged, SmallFoldersShow, SmallFoldersShowOldForm};
-ghost use Rattle.spool_shows.specs.Laws.{AcceptsAreShown, CompactionsAreShown, DrawsAreShown, FoldersAreShownByName, FoldersWithoutSequenceShowNoEntry, LegalStepsAddLegalMarks, MarksAreShown, OtherFilesCountForNothing, RewritesAreShown, ShownJobsHaveHeaders, ShownTablesAreSound};
-ghost use Rattle.spool_shows.specs.OldForm.{OldFormFoldersShowTheSame, OldFormTablesAreShown};
+//! What holds of every directory, each law as the contract of a function.
+ghost use Rattle.spool_shows.specs.DamageLaws.{DirectoriesShowTheirFirstDamage, UndamagedDirectoriesShowTables};
+ghost use Rattle.spool_shows.specs.Examples.{SmallDirectoriesAreDamaged, SmallDirectoriesShow, SmallDirectoriesShowOldForm};
+ghost use Rattle.spool_shows.specs.Laws.{AcceptsAreShown, CompactionsAreShown, DrawsAreShown, DirectoriesAreShownByName, DirectoriesWithoutSequenceShowNoEntry, LegalStepsAddLegalMarks, MarksAreShown, OtherFilesCountForNothing, RewritesAreShown, ShownJobsHaveHeaders, ShownTablesAreSound};
+ghost use Rattle.spool_shows.specs.OldForm.{OldFormDirectoriesShowTheSame, OldFormTablesAreShown};
 
-/// What small folders show, computed.
-pub fn small_folders()
-    ensures show { SmallFoldersShow }
-    ensures damaged { SmallFoldersAreDamaged }
-    ensures old_form { SmallFoldersShowOldForm }
+/// What small directories show, computed.
+pub fn small_directories()
+    ensures show { SmallDirectoriesShow }
+    ensures damaged { SmallDirectoriesAreDamaged }
+    ensures old_form { SmallDirectoriesShowOldForm }
 {}
 
-/// What a folder shows is what each of its names and numbers shows.
-pub fn folders_are_shown_by_name()
-    ensures { FoldersAreShownByName }
+/// What a directory shows is what each of its names and numbers shows.
+pub fn directories_are_shown_by_name()
+    ensures { DirectoriesAreShownByName }
 {}
 
-/// A folder shows its first damage, and a table exactly where it has none.
-pub fn folders_show_their_first_damage()
-    ensures damage { FoldersShowTheirFirstDamage }
-    ensures table { UndamagedFoldersShowTables }
+/// A directory shows its first damage, and a table exactly where it has none.
+pub fn directories_show_their_first_damage()
+    ensures damage { DirectoriesShowTheirFirstDamage }
+    ensures table { UndamagedDirectoriesShowTables }
 {}
 
-/// The table that a folder shows is sound.
+/// The table that a directory shows is sound.
 pub fn shown_tables_are_sound()
     ensures { ShownTablesAreSound }
 {}
 
-/// The script of each live job that a folder shows begins with a header of its user.
+/// The script of each live job that a directory shows begins with a header of its user.
 pub fn shown_jobs_have_headers()
     ensures { ShownJobsHaveHeaders }
 {}
 
-/// A folder without a sequence file shows a damage, or a table without entries.
-pub fn folders_without_sequence_show_no_entry()
-    ensures { FoldersWithoutSequenceShowNoEntry }
+/// A directory without a sequence file shows a damage, or a table without entries.
+pub fn directories_without_sequence_show_no_entry()
+    ensures { DirectoriesWithoutSequenceShowNoEntry }
 {}
 
-/// Files under other names, and those of decided numbers, count for nothing.
+/// Files under other names, and those of finished numbers, count for nothing.
 pub fn other_files_count_for_nothing()
     ensures { OtherFilesCountForNothing }
 {}
@@ -52,7 +52,7 @@ pub fn accepts_are_shown()
     ensures { AcceptsAreShown }
 {}
 
-/// One mark more in the journal shows the table after the step of that mark.
+/// One more mark in the journal shows the table after the step of that mark.
 pub fn marks_are_shown()
     ensures shown { MarksAreShown }
     ensures legal { LegalStepsAddLegalMarks }
@@ -68,9 +68,9 @@ pub fn rewrites_are_shown()
     ensures { RewritesAreShown }
 {}
 
-/// A folder without names in the new form shows the table that it shows by the old form alone, as spools were read before
-/// numbers of eight digits. With a last number in that form it shows the same, be it a table or a damage.
-pub fn old_form_folders_show_the_same()
+/// A directory without names in the new form shows the table that it shows by the old form alone, as spools were read
+/// before numbers of eight digits. With a last number in that form it shows the same, be it a table or a damage.
+pub fn old_form_directories_show_the_same()
     ensures tables { OldFormTablesAreShown }
-    ensures damages { OldFormFoldersShowTheSame }
+    ensures damages { OldFormDirectoriesShowTheSame }
 {}

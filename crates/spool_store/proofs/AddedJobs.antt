@@ -17,7 +17,7 @@ use Rattle.spool_store.specs.Laws.{SubmissionsAddOneJob}
 abbrev live_in : List (ℕ × JobEntry) → ℕ
 live_in list = length (filter (λ (e : ℕ × JobEntry). is_live e.1) list)
 
--- one entry more is at most one more, and never one less
+-- one more entry is at most one more, and never one less
 at_most_one : (entry : ℕ × JobEntry) (list : List (ℕ × JobEntry)) → live_in (entry ∷ list) ≤ live_in list + 1
 at_most_one entry list = by_test (is_live entry.1) where
   by_test : (lives : Bool) → length (cond lives (entry ∷ filter (λ (e : ℕ × JobEntry). is_live e.1) list) (filter (λ (e : ℕ × JobEntry). is_live e.1) list)) ≤ live_in list + 1

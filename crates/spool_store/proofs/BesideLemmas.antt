@@ -1,9 +1,9 @@
--- Files beside the store's, of any names: what a change of them alone leaves.
+-- Files next to the store's, of any names: what a change of them alone leaves.
 use Rattle.std.proofs.Common.{◌≡◌, ℕ, true, false, List, Option, Some, None, [], sym, subst, ◌∙◌, refl, inl, inr}
 use Rattle.std.specs.Prelude.{Contains, IsSome, is_some}
 use Rattle.std.specs.Str.{bytes_eq}
 use Rattle.std.specs.FinMap as finite
-use Rattle.host_calls.specs.Folder.{Files, Folder, IsImage, reading_of}
+use Rattle.host_calls.specs.Directory.{Files, Directory, IsImage, reading_of}
 use Rattle.job_name.specs.JobName.{NamedJob, job_named}
 use Rattle.sequence_file.specs.Sequence.{sequence_file}
 use Rattle.spool_model.specs.JobTable.{JobTable}
@@ -12,7 +12,7 @@ use Rattle.spool_shows.specs.Shown.{shown_by}
 use Rattle.spool_shows.proofs.NameLemmas.{differ_by}
 use Rattle.spool_shows.proofs.OtherLemmas.{other_files_count_for_nothing}
 use Rattle.start_journal.specs.declared.mark.Mark.{Mark}
-use Rattle.start_journal.specs.Changing.{GivesReadJournal}
+use Rattle.start_journal.specs.JournalChange.{GivesReadJournal}
 use Rattle.start_journal.specs.Journals.{journal_file}
 use Rattle.whole_file.specs.Others.{IsEither, LeavesOthers}
 use Rattle.whole_file.specs.Temporary.{temporary_file}
@@ -43,20 +43,20 @@ module _ (may_change : List ℕ → Type 0) (beside : AreBeside may_change) wher
   kept_name name is may = beside name may is
 
   -- so an image shows what the one shows that it comes of
-  pub shows_the_same : (start : Folder) (image : Files) (alone : LeavesOthers may_change start image) → shown_by image ≡ shown_by alone.from
+  pub shows_the_same : (start : Directory) (image : Files) (alone : LeavesOthers may_change start image) → shown_by image ≡ shown_by alone.from
   shows_the_same start image alone = other_files_count_for_nothing alone.from image (record {
     sequence = alone.others sequence_file (kept_name sequence_file (inl refl));
     journal = alone.others journal_file (kept_name journal_file (inr (inl refl)));
     jobs = λ marks has name counted. alone.others name (kept_name name (counted_is_spool marks name (job_named name) refl counted));
   })
 
-  -- Files under these names alone have changed, and that is certain.
-  pub record IsChangedAt (old new : Folder) : Type 0 where
+  -- Files under these names alone have changed, and that is durable.
+  pub record IsChangedAt (old new : Directory) : Type 0 where
     pub images : (image : Files) → IsImage new image → LeavesOthers may_change old image
-    pub certain : new.pending ≡ []
+    pub durable : new.pending ≡ []
     pub others : (name : List ℕ) → ¬ (may_change name) → finite.get (reading_of new) name ≡ finite.get (reading_of old) name
 
-  module _ (kept : Kept) (table : JobTable) (old new : Folder) (current : IsCurrent kept old table) (changed : IsChangedAt old new) where
+  module _ (kept : Kept) (table : JobTable) (old new : Directory) (current : IsCurrent kept old table) (changed : IsChangedAt old new) where
     -- what a name of the store's has in an image is what the one of the start has there
     from_start : (name : List ℕ) → IsSpoolName name → (image : Files) → (is : IsImage new image) → finite.get image name ≡ finite.get (changed.images image is).from name
     from_start name spool image is = (changed.images image is).others name (kept_name name spool)
@@ -69,7 +69,7 @@ module _ (may_change : List ℕ → Type 0) (beside : AreBeside may_change) wher
       shows = λ image is. shows_the_same old image (changed.images image is) ∙ current.shows (changed.images image is).from (changed.images image is).was;
       without_scripts_is = current.without_scripts_is;
       journal = record {
-        certain = changed.certain;
+        durable = changed.durable;
         same = λ image is. from_start journal_file (inr (inl refl)) image is
             ∙ current.journal.same (changed.images image is).from (changed.images image is).was ∙ sym (reads_on journal_file (inr (inl refl)));
         gives = subst (λ content. GivesReadJournal content kept.journal) (sym (reads_on journal_file (inr (inl refl)))) current.journal.gives;
@@ -101,18 +101,18 @@ clearings_beside_show_the_same names start image beside is = shows_the_same (Con
 
 pub stores_stay_current_after_placings : StoresStayCurrentAfterPlacings
 stores_stay_current_after_placings kept table temp target bytes old new of_temp of_target current changes placed =
-    stays_current (IsEither temp target) (two_beside temp target of_temp of_target) kept table old.now.folder new.now.folder current (record {
+    stays_current (IsEither temp target) (two_beside temp target of_temp of_target) kept table old.now.directory new.now.directory current (record {
       images = λ image is. (changes_end _ old new changes
-          (λ one was. record { alone = left_alone (IsEither temp target) old.now.folder one was; placed = inl refl }) image is).alone;
-      certain = placed.certain;
+          (λ one was. record { alone = left_alone (IsEither temp target) old.now.directory one was; placed = inl refl }) image is).alone;
+      durable = placed.durable;
       others = placed.others;
     })
 
 pub stores_stay_current_after_clearings : StoresStayCurrentAfterClearings
 stores_stay_current_after_clearings kept table names old new beside current changes cleared =
-    stays_current (Contains names) beside kept table old.now.folder new.now.folder current (record {
-      images = changes_end (LeavesOthers (Contains names) old.now.folder) old new (clears_alone names old.now.folder old new changes)
-          (left_alone (Contains names) old.now.folder);
-      certain = cleared.certain;
+    stays_current (Contains names) beside kept table old.now.directory new.now.directory current (record {
+      images = changes_end (LeavesOthers (Contains names) old.now.directory) old new (clears_alone names old.now.directory old new changes)
+          (left_alone (Contains names) old.now.directory);
+      durable = cleared.durable;
       others = cleared.others;
     })

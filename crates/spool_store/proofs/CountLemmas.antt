@@ -1,4 +1,4 @@
--- The rows and decided numbers of a store are those of its table.
+-- The rows and finished numbers of a store are those of its table.
 use Rattle.std.proofs.Common.{◌≡◌, ℕ, Bool, true, false, cond, ◌&&◌, List, [], ◌∷◌, length, map, sym, ap, subst, ◌∙◌, refl}
 use Rattle.std.specs.Prelude.{Option, Some, None, T}
 use Rattle.std.specs.Cmp.{nat_cmp_total}
@@ -41,12 +41,12 @@ sorted_filtered test (entry ∷ later) sorted = by_test (test entry) (sorted_fil
 
 -- lists that rise and have the same entries are one
 same_list : (one other : List (ℕ × JobEntry)) → T (is_sorted nat_cmp one) → T (is_sorted nat_cmp other) → ((entry : ℕ × JobEntry) → Has one entry → Has other entry) → ((entry : ℕ × JobEntry) → Has other entry → Has one entry) → one ≡ other
-same_list one other rise rise_too forward back = same_entries nat_cmp nat_cmp_total exact_unsigned one other rise rise_too (λ number. by_surveyed number (find nat_cmp number one) refl (find nat_cmp number other) refl) where
-  by_surveyed : (number : ℕ) (first : Option JobEntry) → find nat_cmp number one ≡ first → (second : Option JobEntry) → find nat_cmp number other ≡ second → find nat_cmp number one ≡ find nat_cmp number other
-  by_surveyed number (Some entry) is second also =
+same_list one other rise rise_too forward back = same_entries nat_cmp nat_cmp_total exact_unsigned one other rise rise_too (λ number. by_scanned number (find nat_cmp number one) refl (find nat_cmp number other) refl) where
+  by_scanned : (number : ℕ) (first : Option JobEntry) → find nat_cmp number one ≡ first → (second : Option JobEntry) → find nat_cmp number other ≡ second → find nat_cmp number one ≡ find nat_cmp number other
+  by_scanned number (Some entry) is second also =
       is ∙ sym (has_key nat_cmp nat_cmp_total other number entry rise_too (forward (number, entry) (key_has nat_cmp exact_unsigned one number entry is)))
-  by_surveyed number None is None also = is ∙ sym also
-  by_surveyed number None is (Some entry) also =
+  by_scanned number None is None also = is ∙ sym also
+  by_scanned number None is (Some entry) also =
       has_key nat_cmp nat_cmp_total one number entry rise (back (number, entry) (key_has nat_cmp exact_unsigned other number entry also)) ∙ sym also
 
 -- what is made of the elements that pass a test is all that is made, where the others make nothing
@@ -108,7 +108,7 @@ module _ (table : JobTable) (decided : List Decided) (lists : ListsDecided table
   abbrev done : List (ℕ × JobEntry)
   done = filter (λ entry. is_done entry.1) (entries table.entries)
 
-  -- each decided number is a done entry
+  -- each finished number is a done entry
   decided_is_done : (entry : ℕ × JobEntry) → Has (map decided_entry decided) entry → Has done entry
   decided_is_done entry has =
       let made : (one : Decided) × Has decided one × (decided_entry one ≡ entry) = made_has decided_entry decided entry has in
@@ -116,7 +116,7 @@ module _ (table : JobTable) (decided : List Decided) (lists : ListsDecided table
       key_has nat_cmp exact_unsigned (entries table.entries) made.0.number (decided_entry made.0).1 (sym (get-entries table.entries made.0.number) ∙ lists.each made.0 (contained decided made.0 made.1)) in
       subst (Has done) made.2 (has_filtered (λ (one : ℕ × JobEntry). is_done one.1) (entries table.entries) (decided_entry made.0) there refl)
 
-  -- each done entry is that of a decided number
+  -- each done entry is that of a finished number
   done_has_decided : (number : ℕ) (entry : JobEntry) → Has (entries table.entries) (number, entry) → is_done entry ≡ true → Has (map decided_entry decided) (number, entry)
   done_has_decided number (Done fate) has is =
       let held : entry_at table number ≡ Some (Done fate) = get-entries table.entries number ∙ has_key nat_cmp nat_cmp_total (entries table.entries) number (Done fate) (entries_sorted table.entries) has in

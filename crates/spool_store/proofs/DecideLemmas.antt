@@ -1,9 +1,9 @@
--- A job is decided: its mark is added, and then its file is removed, which counts for nothing by then.
+-- A job is finished: its mark is added, and then its file is removed, which counts for nothing by then.
 use Rattle.std.proofs.Common.{◌≡◌, ◌≤◌, ◌⊎◌, ℕ, Bool, true, false, List, [], ◌∷◌, Contains, sym, ap, subst, ◌∙◌, refl, arith, inl, inr}
 use Rattle.std.specs.Prelude.{Some, IsSome, if◌then◌else◌}
 use Rattle.std.specs.FinMap as map
-use Rattle.host_calls.specs.Folder.{Files, Folder, reading_of}
-use Rattle.host_calls.proofs.FolderLemmas.{reading_is_image}
+use Rattle.host_calls.specs.Directory.{Files, Directory, reading_of}
+use Rattle.host_calls.proofs.DirectoryLemmas.{reading_is_image}
 use Rattle.whole_file.specs.Temporary.{temporary_file}
 use Rattle.spool_model.specs.declared.job.Job.{Job}
 use Rattle.spool_model.specs.declared.step.Step.{Step}
@@ -12,12 +12,12 @@ use Rattle.spool_model.specs.Steps.{after_step}
 use Rattle.spool_model.proofs.StepLemmas.{last_rises}
 use Rattle.start_journal.specs.declared.mark.Mark.{Mark}
 use Rattle.start_journal.specs.declared.mark.Mark.TheVariants.{Removed, Ended, Interrupted}
-use Rattle.start_journal.specs.Changing.{added, compacted}
+use Rattle.start_journal.specs.JournalChange.{added, compacted}
 use Rattle.start_journal.specs.Journals.{JournalRead, journal_file}
 use Rattle.start_journal.specs.Marks.{AreLegalMarks, decides, is_decided, kept_marks}
 use Rattle.start_journal.proofs.LifeLemmas.{any_more, any_with}
 use Rattle.std.proofs.lemmas.Bool.{eqb-true, or_cases}
-use Rattle.whole_file.specs.Clearing.{AreFiles}
+use Rattle.whole_file.specs.Removal.{AreFiles}
 use Rattle.spool_shows.specs.ByName.{IsJobFile, ShowsByName}
 use Rattle.spool_shows.specs.JobFiles.{JobFile}
 use Rattle.job_name.specs.JobName.{NamedJob, job_named}
@@ -28,9 +28,9 @@ use Rattle.job_name.proofs.NamedJobs.{name_given, one_job_name}
 use Rattle.spool_shows.proofs.StepLaws.{by_name}
 use Rattle.spool_shows.proofs.StepMarks.{live_in}
 use Rattle.step_runs.specs.Current.{HaveForms, is_new_form}
-use Rattle.spool_store.specs.inside.Marking.{HaveOneMore, IsDecisionOf, KeepsFiles}
+use Rattle.spool_store.specs.inside.JournalMark.{HaveOneMore, IsDecisionOf, KeepsFiles}
 use Rattle.spool_store.specs.Scripts.{IsLiveFileName}
-use Rattle.spool_store.specs.Stepping.{needs_room, with_room}
+use Rattle.spool_store.specs.OneStep.{needs_room, with_room}
 use Rattle.spool_store.proofs.KeptMarks.{kept_decided}
 use Rattle.spool_store.proofs.MarkingLemmas.{IsShownWith, reads_as}
 use Rattle.spool_store.proofs.RoomLemmas.{shown_with}
@@ -41,7 +41,7 @@ still_drawn table step number few = omega (arith, last_rises table.last step)
 
 -- The file of a live job.
 
--- the name is that of a job of this number, which is not decided; its file is there, and no other has the number
+-- the name is that of a job of this number, which is not finished; its file exists, and no other has the number
 pub record IsItsFile (marks : List Mark) (files : Files) (number : ℕ) (name : List ℕ) : Type 0 where
   pub job : NamedJob
   pub named : job_named name ≡ Some job
@@ -55,7 +55,7 @@ pub record IsItsFile (marks : List Mark) (files : Files) (number : ℕ) (name : 
 same_job : (one other : NamedJob) → one.queue ≡ other.queue → one.number ≡ other.number → one.minute ≡ other.minute → one.new_form ≡ other.new_form → one ≡ other
 same_job one other queue number minute new_form = λ i. record { queue = queue i; number = number i; minute = minute i; new_form = new_form i }
 
--- a live job has its file, in a folder that is shown by name
+-- a live job has its file, in a directory that is shown by name
 file_by_name : (old_form : List ℕ) (files : Files) (table : JobTable) (number : ℕ) (name : List ℕ) (shows : ShowsByName files table) → HaveForms old_form table.last files → IsLiveFileName table old_form number name → IsItsFile shows.read.marks files number name
 file_by_name old_form files table number name shows forms of =
     let marks : List Mark = shows.read.marks in
@@ -82,11 +82,11 @@ its_file old_form journal table files number name is forms of =
     subst (λ (read : JournalRead). IsItsFile read.marks files number name) (reads_as journal table files is)
     (file_by_name old_form files table number name (by_name files table is.shows) forms of)
 
--- the file of the job that is decided
-pub decided_file : (old_form : List ℕ) (journal : JournalRead) (folder : Folder) (table : JobTable) (step : Step) (mark : Mark) (name : List ℕ) (decision : IsDecisionOf old_form journal folder table step mark name) → IsItsFile journal.marks (reading_of folder) decision.number name
-decided_file old_form journal folder table step mark name decision =
-    its_file old_form journal table (reading_of folder) decision.number name
-    (shown_with old_form journal folder table decision.is_mark.current (reading_of folder) (reading_is_image folder)) decision.is_mark.current.forms decision.file
+-- the file of the job that is finished
+pub decided_file : (old_form : List ℕ) (journal : JournalRead) (directory : Directory) (table : JobTable) (step : Step) (mark : Mark) (name : List ℕ) (decision : IsDecisionOf old_form journal directory table step mark name) → IsItsFile journal.marks (reading_of directory) decision.number name
+decided_file old_form journal directory table step mark name decision =
+    its_file old_form journal table (reading_of directory) decision.number name
+    (shown_with old_form journal directory table decision.is_mark.current (reading_of directory) (reading_is_image directory)) decision.is_mark.current.forms decision.file
 
 -- One name alone.
 
@@ -106,7 +106,7 @@ pub apart_from : (name other : List ℕ) → ¬ (other ≡ name) → ¬ (Contain
 apart_from name other differ is = differ (only_one name other is)
 
 -- it is a file still, once the mark stands
-pub decided_held : (old_form : List ℕ) (journal : JournalRead) (first second : Folder) (table : JobTable) (step : Step) (mark : Mark) (name : List ℕ) → IsDecisionOf old_form journal first table step mark name → KeepsFiles first second → AreFiles (name ∷ []) (reading_of second)
+pub decided_held : (old_form : List ℕ) (journal : JournalRead) (first second : Directory) (table : JobTable) (step : Step) (mark : Mark) (name : List ℕ) → IsDecisionOf old_form journal first table step mark name → KeepsFiles first second → AreFiles (name ∷ []) (reading_of second)
 decided_held old_form journal first second table step mark name decision keeps =
     let file : IsItsFile journal.marks (reading_of first) decision.number name = decided_file old_form journal first table step mark name decision in
     let held : map.get (reading_of second) name ≡ Some file.bytes =
@@ -125,12 +125,12 @@ one_more journal new mark is = by_room (needs_room journal) (ap (λ (read : Jour
   by_room true more = inr more
   by_room false more = inl more
 
--- what one more decides is decided
+-- what one more decides is finished
 pub decided_by_it : (before after : List Mark) (mark : Mark) (number : ℕ) → HaveOneMore before mark after → decides number mark ≡ true → is_decided number after ≡ true
 decided_by_it before after mark number (inl more) is = ap (is_decided number) more ∙ any_with (decides number) before mark is
 decided_by_it before after mark number (inr kept) is = ap (is_decided number) kept ∙ any_with (decides number) (kept_marks before) mark is
 
--- what is decided with one more was decided before, or is decided by it
+-- what is finished with one more was finished before, or is finished by it
 pub decided_before_or_by_it : (before after : List Mark) (mark : Mark) (number : ℕ) → AreLegalMarks before → HaveOneMore before mark after → is_decided number after ≡ true → (is_decided number before ≡ true) ⊎ (decides number mark ≡ true)
 decided_before_or_by_it before after mark number legal (inl more) is =
     or_cases (is_decided number before) (decides number mark) (sym (any_more (decides number) before mark) ∙ sym (ap (is_decided number) more) ∙ is)

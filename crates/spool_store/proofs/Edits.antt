@@ -149,7 +149,7 @@ module _ {X V : Type 0} (entry : X → ℕ × V) where
       ap (λ (es : List (ℕ × V)). entry y ∷ es) (remove_is_where later place number (right _ _ rise) (λ k d low high. before (suc k) d (omega arith) (omega arith)) (omega arith) here)
       ∙ sym (ap (λ b. cond (not b) (entry y ∷ where_key nat_cmp (λ q. not (eq_by_cmp nat_cmp number q)) (map entry later)) (where_key nat_cmp (λ q. not (eq_by_cmp nat_cmp number q)) (map entry later))) (not_tied number (entry y).0 (λ same. omega arith)))
 
-  -- a number that is there is at its place
+  -- a number that exists is at its place
   pub at_place : (xs : List X) (place number : ℕ) (value : V) → T (is_sorted nat_cmp (map entry xs)) → AllWithin (IsBefore number) xs 0 place → AllWithin (IsFrom number) xs place (length xs) → find nat_cmp number (map entry xs) ≡ Some value → (place < length xs) × ((d : X) → entry (get_or xs place d) ≡ (number, value))
   at_place [] place number value rise before after found = absurd (none_some value found)
   at_place (y ∷ later) zero number value rise before after found = by_test (eq_by_cmp nat_cmp number (entry y).0) refl found where

@@ -56,22 +56,22 @@ pub unnamed_kept : (marks : List Mark) (number : ℕ) → AreLegalMarks marks �
 unnamed_kept marks number legal unnamed =
     test_kept marks number (is_mark_of number) legal (λ mark named. named) (unnamed_none number marks unnamed).0 ∙ unnamed
 
--- what is decided among the kept marks was decided
+-- what is finished among the kept marks was finished
 pub kept_decided : (marks : List Mark) (number : ℕ) → AreLegalMarks marks → is_decided number (kept_marks marks) ≡ true → is_decided number marks ≡ true
 kept_decided marks number legal decided = by_test (is_forgotten number marks) refl where
   by_test : (forgotten : Bool) → is_forgotten number marks ≡ forgotten → is_decided number marks ≡ true
   by_test true is = forgotten_was_decided number [] marks legal is
   by_test false is = sym (test_kept marks number (decides number) legal (decides_names number) is) ∙ decided
 
--- a number that is started and not ended is not decided
+-- a number that is started and not ended is not finished
 running_undecided : (number : ℕ) (marks : List Mark) → AreLegalMarks marks → has_start_of number marks ≡ true → is_ended number marks ≡ false → is_decided number marks ≡ false
 running_undecided number marks legal started running = ap (λ b. b && is_decided number marks) (sym started) ∙ sym (ended_by number marks legal) ∙ running
 
 -- The marks of every journal.
 
 -- a journal whose marks are sound has legal ones
-pub sound_is_legal : (inside surveyed : JournalRead) → inside ≡ surveyed → are_sound inside.marks ≡ true → AreLegalMarks surveyed.marks
-sound_is_legal inside surveyed is sound = subst (λ (read : JournalRead). AreLegalMarks read.marks) is (sound_legal inside.marks sound)
+pub sound_is_legal : (inside scanned : JournalRead) → inside ≡ scanned → are_sound inside.marks ≡ true → AreLegalMarks scanned.marks
+sound_is_legal inside scanned is sound = subst (λ (read : JournalRead). AreLegalMarks read.marks) is (sound_legal inside.marks sound)
 
 -- What may follow.
 

@@ -14,9 +14,9 @@ use Rattle.start_journal.proofs.MarkLemmas.{or_true}
 use Rattle.spool_shows.specs.JobFiles.{counts_as}
 use Rattle.job_name.proofs.JobNameLemmas.{few_digits}
 use Rattle.job_name.proofs.NamedJobs.{name_given, name_spelled}
-use Rattle.spool_store.specs.declared.surveyed_files.Kind.TheVariants.{Counts, LeftOver, Other}
-use Rattle.spool_store.specs.inside.Survey.{IsKind, is_decided_job}
-use Rattle.spool_store.specs.inside.SurveyedJobs.{job_of_name}
+use Rattle.spool_store.specs.declared.scanned_files.Kind.TheVariants.{Counts, LeftOver, Other}
+use Rattle.spool_store.specs.inside.Scan.{IsKind, is_decided_job}
+use Rattle.spool_store.specs.inside.ScannedJobs.{job_of_name}
 use Rattle.spool_store.proofs.StartLemmas.{life_decides}
 
 -- the name of a job is not that of a file that is being made

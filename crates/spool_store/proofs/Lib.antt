@@ -4,7 +4,7 @@ pub mod BesideLemmas
 pub mod CountLemmas
 pub mod DecideLemmas
 pub mod DecidedFiles
-pub mod DrawnFolders
+pub mod DrawnDirectories
 pub mod Edits
 pub mod PrefixLemmas
 pub mod HeaderLemmas
@@ -14,7 +14,7 @@ pub mod LinedLemmas
 pub mod ListLemmas
 pub mod ListedLemmas
 pub mod Listing
-pub mod SurveyLemmas
+pub mod ScanLemmas
 pub mod MakeLemmas
 pub mod MarkingCalls
 pub mod MarkingLemmas
@@ -27,8 +27,8 @@ mod RisingLemmas
 pub mod RoomLemmas
 pub mod RowRanges
 pub mod ScriptLemmas
-pub mod SurveyedFileLemmas
-pub mod SurveyedJobLemmas
+pub mod ScannedFileLemmas
+pub mod ScannedJobLemmas
 pub mod ShownLemmas
 pub mod StartLemmas
 pub mod StepCalls
@@ -37,7 +37,7 @@ pub mod StoredSteps
 pub mod SubmitAnswers
 pub mod SubmitLemmas
 pub mod SubmitStored
-pub mod SubmittedFolders
+pub mod SubmittedDirectories
 pub mod SurplusLemmas
 pub mod TableLemmas
 pub mod WrittenJobs

@@ -6,17 +6,17 @@ use Rattle.spool_model.specs.declared.row.Row.{Row}
 use Rattle.spool_model.specs.JobTable.{JobTable}
 use Rattle.spool_model.specs.Lists.{live_rows}
 use Rattle.queue_rules.specs.Order.{is_ready_batch, is_ready_job}
-use Rattle.due_lines.specs.declared.due.Due.{Due}
-use Rattle.due_lines.specs.declared.lines.Lines.{Lines}
-use Rattle.due_lines.specs.Dues.{IsLineOf, is_due_at, is_waiting_batch, is_waiting_job}
-use Rattle.due_lines.specs.TwoLines.{AreLinesOf}
-use Rattle.due_lines.proofs.LineLemmas.{lines_put}
-use Rattle.due_lines.proofs.RowLemmas.{prefix_of_batch, prefix_of_jobs}
+use Rattle.queue_rules.specs.declared.due.Due.{Due}
+use Rattle.queue_rules.specs.declared.lines.Lines.{Lines}
+use Rattle.queue_rules.specs.Dues.{IsLineOf, is_due_at, is_waiting_batch, is_waiting_job}
+use Rattle.queue_rules.specs.TwoLines.{AreLinesOf}
+use Rattle.queue_rules.proofs.LineLemmas.{lines_put}
+use Rattle.queue_rules.proofs.RowLemmas.{prefix_of_batch, prefix_of_jobs}
 use Rattle.spool_store.proofs.CountLemmas.{rows_listed}
 use Rattle.spool_store.specs.Listed.{ListsLive}
 use Rattle.spool_store.specs.inside.Lined.{IsRowPut, running}
 
--- a list with what stands at a place
+-- a list with what is at a place
 whole : {X : Type 0} → (xs : List X) (i : ℕ) (x : X) → i < length xs → x ≡ get_or xs i x → xs ≡ take i xs ++ x ∷ drop (suc i) xs
 whole xs i x within is = sym (sym (set_split xs i x within) ∙ ap (set xs i) is ∙ set-get_or xs i x)
 
@@ -57,14 +57,14 @@ pub lines_pushed : (old new : List Row) (row : Row) (lines after : Lines) → ne
 lines_pushed old new row lines after is added are = subst (λ (rows : List Row). AreLinesOf rows after) (sym is) (added old are)
 
 -- the head of a line up to now is the line of the jobs that are due
-pub due_listed : (table : JobTable) (rows : List Row) (dues prefix : List Due) (now written : ℤ) → ListsLive table rows → written ≡ now
-    → prefix ≡ filter (is_due_at written) dues → IsLineOf is_waiting_job rows dues → IsLineOf (is_ready_job now) (live_rows table) prefix
-due_listed table rows dues prefix now written lists same is line =
+pub due_listed : (table : JobTable) (rows : List Row) (due_jobs prefix : List Due) (now written : ℤ) → ListsLive table rows → written ≡ now
+    → prefix ≡ filter (is_due_at written) due_jobs → IsLineOf is_waiting_job rows due_jobs → IsLineOf (is_ready_job now) (live_rows table) prefix
+due_listed table rows due_jobs prefix now written lists same is line =
     subst (λ (listed : List Row). IsLineOf (is_ready_job now) listed prefix) (sym (rows_listed table rows lists))
-    (subst (IsLineOf (is_ready_job now) rows) (sym (is ∙ ap (λ (at : ℤ). filter (is_due_at at) dues) same)) (prefix_of_jobs now rows dues line))
+    (subst (IsLineOf (is_ready_job now) rows) (sym (is ∙ ap (λ (at : ℤ). filter (is_due_at at) due_jobs) same)) (prefix_of_jobs now rows due_jobs line))
 
-pub batch_listed : (table : JobTable) (rows : List Row) (dues prefix : List Due) (now written : ℤ) → ListsLive table rows → written ≡ now
-    → prefix ≡ filter (is_due_at written) dues → IsLineOf is_waiting_batch rows dues → IsLineOf (is_ready_batch now) (live_rows table) prefix
-batch_listed table rows dues prefix now written lists same is line =
+pub batch_listed : (table : JobTable) (rows : List Row) (due_jobs prefix : List Due) (now written : ℤ) → ListsLive table rows → written ≡ now
+    → prefix ≡ filter (is_due_at written) due_jobs → IsLineOf is_waiting_batch rows due_jobs → IsLineOf (is_ready_batch now) (live_rows table) prefix
+batch_listed table rows due_jobs prefix now written lists same is line =
     subst (λ (listed : List Row). IsLineOf (is_ready_batch now) listed prefix) (sym (rows_listed table rows lists))
-    (subst (IsLineOf (is_ready_batch now) rows) (sym (is ∙ ap (λ (at : ℤ). filter (is_due_at at) dues) same)) (prefix_of_batch now rows dues line))
+    (subst (IsLineOf (is_ready_batch now) rows) (sym (is ∙ ap (λ (at : ℤ). filter (is_due_at at) due_jobs) same)) (prefix_of_batch now rows due_jobs line))

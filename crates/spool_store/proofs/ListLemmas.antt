@@ -1,4 +1,4 @@
--- The lists of rows and decided numbers: their numbers, and what they are.
+-- The lists of rows and finished numbers: their numbers, and what they are.
 use Rattle.std.proofs.Common.{◌≡◌, ℕ, ◌≤◌, Bool, true, false, cond, List, Option, Some, None, [], ◌∷◌, map, sym, ap, subst, ◌∙◌, refl, arith, inl, inr}
 use Rattle.std.specs.Prelude.{Contains, is_some, nat_le, option_map, unwrap_or, ◌==◌, ◌&&◌}
 use Rattle.std.specs.List.{filter_map, list_all}
@@ -23,11 +23,11 @@ use Rattle.spool_shows.proofs.SoundLemmas.{fine_is_whole, no_damage_is_fine}
 use Rattle.std.proofs.lemmas.Bool.{eqb-true}
 use Rattle.start_journal.specs.declared.lifecycles.Lifecycle.{Lifecycle}
 use Rattle.start_journal.specs.declared.lifecycles.Lifecycles.{Lifecycles}
-use Rattle.spool_store.specs.declared.surveyed_job.SurveyedJob.{SurveyedJob}
+use Rattle.spool_store.specs.declared.scanned_job.ScannedJob.{ScannedJob}
 use Rattle.start_journal.specs.Lifecycles.{TellLifecycles, decided_of, life_under, remembered_fate, unknown}
 use Rattle.spool_store.specs.inside.JobRows.{AreRowsOf, IsInOrder, RowMap, row_of}
 use Rattle.spool_store.specs.Rows.{listed_table}
-use Rattle.spool_store.specs.inside.SurveyedJobs.{file_surveyed, files_surveyed}
+use Rattle.spool_store.specs.inside.ScannedJobs.{file_scanned, files_scanned}
 use Rattle.spool_store.specs.inside.Tables.{AreUndecided, IsDrawnBy, ListsDrawn, ListsTable, AreAscending}
 use Rattle.start_journal.proofs.LifecycleLemmas.{decided_has_fate}
 use Rattle.spool_store.proofs.TableLemmas.{decided_rise, entry_found, rows_rise, table_same}
@@ -49,7 +49,7 @@ row_file marks files rows are ordered row has =
     of_file marks files entry.0.0 row (file_of entry.0.0 files) refl
     (sym (are entry.0.0) ∙ entry_found rows entry.0.0 entry.0.1 ordered entry.1 ∙ ap Some entry.2)
 
--- Decided numbers.
+-- Finished numbers.
 
 -- a life whose fate is remembered has a fate
 has_fate : (life : Lifecycle) (f : Fate) → remembered_fate life ≡ Some f → is_some life.fate ≡ true
@@ -95,16 +95,16 @@ decider_drawn last number (Started other queue second) same drawn some = cc
 decider_drawn last number (Forgotten other) same drawn some = cc
 decider_drawn last number (Batch second) same drawn some = cc
 
--- a decided number was drawn
+-- a finished number was drawn
 pub number_drawn : (last : ℕ) (marks : List Mark) (number : ℕ) → AreWritable marks → are_drawn last marks ≡ true → is_decided number marks ≡ true → IsDrawnBy last number
 number_drawn last marks number writable drawn decided =
     let mark = one_passes (decides number) marks decided in
     decider_drawn last number mark.0 mark.2 (all_pass (is_drawn last) marks mark.0 drawn mark.1) (All-contains IsWritable marks mark.0 writable (contained marks mark.0 mark.1))
 
 -- a file that was seen has the number of a job
-pub surveyed_number : (surveyed : List SurveyedJob) (file : JobFile) → Has (files_surveyed surveyed) file → 1 ≤ file.job.number
-surveyed_number surveyed file has =
-    let of = made_has file_surveyed surveyed file has in
+pub scanned_number : (scanned : List ScannedJob) (file : JobFile) → Has (files_scanned scanned) file → 1 ≤ file.job.number
+scanned_number scanned file has =
+    let of = made_has file_scanned scanned file has in
     let one : 1 ≤ of.0.job.number = of.0.job.drawn in
     subst (λ (f : JobFile). 1 ≤ f.job.number) of.2 one
 

@@ -1,4 +1,4 @@
--- Rows and decided numbers in their order are lists that a store keeps.
+-- Rows and finished numbers in their order are lists that a store keeps.
 use Rattle.std.proofs.Common.{◌≡◌, ℕ, true, false, List, Option, Some, None, [], ◌∷◌, map, sym, ap, subst, ◌∙◌, refl}
 use Rattle.std.specs.Prelude.{IsSome}
 use Rattle.std.specs.declared.cmp.Ordering.TheVariants.{Less}

@@ -99,7 +99,7 @@ still_drawn last live decided listed = record {
 pub no_entry : IsSome (let none : Option JobEntry = None in none) → ⊥
 no_entry some = let impossible : false ≡ true = some in cc
 
--- no decided number is live, and no row is done
+-- no finished number is live, and no row is done
 live_not_done : (decided : List Decided) (number : ℕ) (job : Job) (state : JobState) → entry_under (map decided_entry decided) number ≡ Some (Live job state) → ⊥
 live_not_done decided number job state found =
     let made : (done : Decided) × Has decided done × (decided_entry done ≡ (number, Live job state)) = made_has decided_entry decided (number, Live job state) (key_has nat_cmp exact_unsigned (map decided_entry decided) number (Live job state) found) in
@@ -126,34 +126,34 @@ module _ (last : ℕ) (rows : List Row) (decided : List Decided) (last_batch : O
 
   -- a live job has a row
   pub live_has_row : (number : ℕ) (job : Job) (state : JobState) → entry_at table number ≡ Some (Live job state) → entry_under (map row_entry rows) number ≡ Some (Live job state)
-  live_has_row number job state held = by_surveyed (entry_under (map row_entry rows) number) refl (sym (in_table number) ∙ held) where
-    by_surveyed : (found : Option JobEntry) → entry_under (map row_entry rows) number ≡ found → or_else found (entry_under (map decided_entry decided) number) ≡ Some (Live job state) → found ≡ Some (Live job state)
-    by_surveyed None none later = absurd (live_not_done decided number job state later)
-    by_surveyed (Some entry) some same = same
+  live_has_row number job state held = by_scanned (entry_under (map row_entry rows) number) refl (sym (in_table number) ∙ held) where
+    by_scanned : (found : Option JobEntry) → entry_under (map row_entry rows) number ≡ found → or_else found (entry_under (map decided_entry decided) number) ≡ Some (Live job state) → found ≡ Some (Live job state)
+    by_scanned None none later = absurd (live_not_done decided number job state later)
+    by_scanned (Some entry) some same = same
 
   pub row_is_live : (number : ℕ) (entry : JobEntry) → entry_under (map row_entry rows) number ≡ Some entry → entry_at table number ≡ Some entry
   row_is_live number entry found = in_table number ∙ ap (λ held. or_else held (entry_under (map decided_entry decided) number)) found
 
   -- a number that is done is a decided one, and has no row
   pub done_is_decided : (number : ℕ) (fate : Fate) → entry_at table number ≡ Some (Done fate) → (entry_under (map row_entry rows) number ≡ None) × (entry_under (map decided_entry decided) number ≡ Some (Done fate))
-  done_is_decided number fate held = by_surveyed (entry_under (map row_entry rows) number) refl (sym (in_table number) ∙ held) where
-    by_surveyed : (found : Option JobEntry) → entry_under (map row_entry rows) number ≡ found → or_else found (entry_under (map decided_entry decided) number) ≡ Some (Done fate) → (found ≡ None) × (entry_under (map decided_entry decided) number ≡ Some (Done fate))
-    by_surveyed None none later = (refl, later)
-    by_surveyed (Some entry) some same = absurd (done_not_live rows number fate (some ∙ same))
+  done_is_decided number fate held = by_scanned (entry_under (map row_entry rows) number) refl (sym (in_table number) ∙ held) where
+    by_scanned : (found : Option JobEntry) → entry_under (map row_entry rows) number ≡ found → or_else found (entry_under (map decided_entry decided) number) ≡ Some (Done fate) → (found ≡ None) × (entry_under (map decided_entry decided) number ≡ Some (Done fate))
+    by_scanned None none later = (refl, later)
+    by_scanned (Some entry) some same = absurd (done_not_live rows number fate (some ∙ same))
 
   pub absent_in_both : (number : ℕ) → entry_at table number ≡ None → (entry_under (map row_entry rows) number ≡ None) × (entry_under (map decided_entry decided) number ≡ None)
-  absent_in_both number none = by_surveyed (entry_under (map row_entry rows) number) (sym (in_table number) ∙ none) where
-    by_surveyed : (found : Option JobEntry) → or_else found (entry_under (map decided_entry decided) number) ≡ None → (found ≡ None) × (entry_under (map decided_entry decided) number ≡ None)
-    by_surveyed None later = (refl, later)
-    by_surveyed (Some entry) some = absurd (none_some entry (sym some))
+  absent_in_both number none = by_scanned (entry_under (map row_entry rows) number) (sym (in_table number) ∙ none) where
+    by_scanned : (found : Option JobEntry) → or_else found (entry_under (map decided_entry decided) number) ≡ None → (found ≡ None) × (entry_under (map decided_entry decided) number ≡ None)
+    by_scanned None later = (refl, later)
+    by_scanned (Some entry) some = absurd (none_some entry (sym some))
 
   pub decided_is_done : AreListed last (map row_entry rows) (map decided_entry decided) → (number : ℕ) (entry : JobEntry) → entry_under (map decided_entry decided) number ≡ Some entry → entry_at table number ≡ Some entry
-  decided_is_done listed number entry found = in_table number ∙ by_surveyed (entry_under (map row_entry rows) number) refl where
-    by_surveyed : (held : Option JobEntry) → entry_under (map row_entry rows) number ≡ held → or_else held (entry_under (map decided_entry decided) number) ≡ Some entry
-    by_surveyed None none = found
-    by_surveyed (Some other) some = absurd (none_some entry (sym (listed.apart number (subst IsSome (sym some) refl)) ∙ found))
+  decided_is_done listed number entry found = in_table number ∙ by_scanned (entry_under (map row_entry rows) number) refl where
+    by_scanned : (held : Option JobEntry) → entry_under (map row_entry rows) number ≡ held → or_else held (entry_under (map decided_entry decided) number) ≡ Some entry
+    by_scanned None none = found
+    by_scanned (Some other) some = absurd (none_some entry (sym (listed.apart number (subst IsSome (sym some) refl)) ∙ found))
 
-  -- a live number is not among the decided ones
+  -- a live number is not among the finished ones
   pub live_is_undecided : AreListed last (map row_entry rows) (map decided_entry decided) → (number : ℕ) (job : Job) (state : JobState) → entry_at table number ≡ Some (Live job state) → entry_under (map decided_entry decided) number ≡ None
   live_is_undecided listed number job state held = listed.apart number (subst IsSome (sym (live_has_row number job state held)) refl)
 

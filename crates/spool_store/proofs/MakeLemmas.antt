@@ -21,8 +21,8 @@ use Rattle.step_runs.proofs.RunLemmas.{prefixes_run_as_the_steps}
 use Rattle.step_runs.proofs.TurnLemmas.{fault_after, legal_when_kept, step_after}
 use Rattle.host_calls.specs.declared.store_fault.StoreFault.{StoreFault}
 use Rattle.host_calls.specs.declared.store_fault.StoreFault.TheVariants.{FileFault}
-use Rattle.spool_store.specs.Making.{AreChanges, IsChange, MakesSteps, MayMakeSteps}
-use Rattle.spool_store.specs.Stepping.{MakesStep, MayStep}
+use Rattle.spool_store.specs.StepSequences.{AreChanges, IsChange, MakesSteps, MayMakeSteps}
+use Rattle.spool_store.specs.OneStep.{MakesStep, MayStep}
 
 -- such a step has no script, and starts nothing
 plain : (step : Step) → IsChange step → (step_without_script step ≡ step) × StartNothing (step ∷ [])
@@ -57,7 +57,7 @@ pub record HasMade (tells : Bool) (was now : Kept) (steps : List Step) (count : 
   pub legal : AreLegal now.table (drop count steps)
   pub changes : AreChanges (drop count steps)
   pub goes_on : tells ≡ true → TimePasses old new
-  pub made : tells ≡ true → (table : JobTable) → IsCurrent was old.now.folder table → AreMade table (take count steps) [] [] now old new
+  pub made : tells ≡ true → (table : JobTable) → IsCurrent was old.now.directory table → AreMade table (take count steps) [] [] now old new
 
 module _ {tells : Bool} {before : Session} {old : World} {was : Kept} {steps : List Step} (may : MayMakeSteps tells before old was steps) where
   pub none_made : HasMade tells was was steps 0 old old
@@ -113,12 +113,12 @@ module _ {tells : Bool} {before : Session} {old : World} {was : Kept} {steps : L
       current = λ known. (_, (has.made known (may.current known).0 (may.current known).1).current);
     }
 
-    legal_on : (table : JobTable) → IsCurrent now middle.now.folder table → IsLegal table step
-    legal_on table current = legal_when_kept now middle.now.folder table step current (subst (IsLegal now.table) (sym (plain step changes.0).0) legal.0)
+    legal_on : (table : JobTable) → IsCurrent now middle.now.directory table → IsLegal table step
+    legal_on table current = legal_when_kept now middle.now.directory table step current (subst (IsLegal now.table) (sym (plain step changes.0).0) legal.0)
 
     goes_after : {between after : Session} {new : World} {result : Result Kept StoreFault} → MakesStep tells between after middle new now step result → tells ≡ true → TimePasses old new
     goes_after {between} {after} {new} makes known =
-        let first : (table : JobTable) × IsCurrent was old.now.folder table = may.current known in
+        let first : (table : JobTable) × IsCurrent was old.now.directory table = may.current known in
         let call = (makes.files known _ (has.made known first.0 first.1).current).files in
         let so_far : TimePasses old middle = has.goes_on known in
         record {

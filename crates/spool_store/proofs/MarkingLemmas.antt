@@ -1,10 +1,10 @@
--- What a folder shows whose journal gives other marks: the same ones, what a compaction keeps, or one more.
+-- What a directory shows whose journal gives other marks: the same ones, what a compaction keeps, or one more.
 use Rattle.std.proofs.Common.{◌≡◌, ◌≤◌, ◌+◌, ℕ, true, List, [], ◌∷◌, ◌++◌, sym, ap, subst, ◌∙◌, refl, arith, inl, inr}
 use Rattle.std.specs.Prelude.{Option, Some, Ok, nat_le}
 use Rattle.std.specs.FinMap as map
 use Rattle.std.proofs.lemmas.Bool.Decides.{nat_tests}
 use Rattle.std.proofs.lemmas.List.Folds.{list_all-append}
-use Rattle.host_calls.specs.Folder.{Files}
+use Rattle.host_calls.specs.Directory.{Files}
 use Rattle.whole_file.specs.Temporary.{temporary_file}
 use Rattle.spool_model.specs.declared.entry.Entry.TheVariants.{Live, Done}
 use Rattle.spool_model.specs.declared.fate.Fate.{Fate}
@@ -16,7 +16,7 @@ use Rattle.spool_model.specs.JobTable.{JobState, JobTable, entry_at}
 use Rattle.spool_model.specs.Steps.{IsLegal, after_step}
 use Rattle.start_journal.specs.declared.mark.Mark.{Mark}
 use Rattle.start_journal.specs.declared.mark.Mark.TheVariants.{Removed, Started, Ended, Interrupted, Forgotten, Batch}
-use Rattle.start_journal.specs.Changing.{GivesReadJournal, added, compacted}
+use Rattle.start_journal.specs.JournalChange.{GivesReadJournal, added, compacted}
 use Rattle.start_journal.specs.Journals.{JournalRead, are_drawn, is_drawn, journal_file, journal_in}
 use Rattle.start_journal.specs.Marks.{AreLegalMarks, decides, is_decided}
 use Rattle.std.proofs.lemmas.Bool.{and_from, and_parts, or_cases}
@@ -66,7 +66,7 @@ pub more_drawn : (last : ℕ) (marks : List Mark) (mark : Mark) → are_drawn la
 more_drawn last marks mark drawn here =
     list_all-append (is_drawn last) marks (mark ∷ []) ∙ and_from _ _ drawn (and_from (is_drawn last mark) true here refl)
 
--- The journal of a folder that shows a table.
+-- The journal of a directory that shows a table.
 
 -- what is read of a content is what it gives
 same_journal : (last : ℕ) (content : Option (List ℕ)) (read journal : JournalRead) → journal_in last content ≡ Ok read → GivesReadJournal content journal → read ≡ journal
@@ -75,7 +75,7 @@ same_journal last content read journal is gives =
     let more : ℕ = last + rest.0 in
     ok_same (journal_in more content) (journal_more last more content read (omega arith) is) (gives more (rest.1 more (omega arith)))
 
--- the folder shows the table, and its journal gives this one
+-- the directory shows the table, and its journal gives this one
 pub record IsShownWith (journal : JournalRead) (table : JobTable) (files : Files) : Type 0 where
   pub shows : Shows files table
   pub gives : GivesReadJournal (map.get files journal_file) journal
@@ -100,7 +100,7 @@ legal_there journal table files is =
     subst (λ (read : JournalRead). AreLegalMarks read.marks) (reads_as journal table files is)
     (journal_legal table.last (map.get files journal_file) shows.read (journal_read files table shows))
 
--- and they are the folder's
+-- and they are the directory's
 pub has_marks : (journal : JournalRead) (table : JobTable) (files : Files) → IsShownWith journal table files → HasMarks files journal.marks
 has_marks journal table files is =
     let shows : ShowsByName files table = by_name files table is.shows in
@@ -178,7 +178,7 @@ compacted_shown journal table before after is none gives others = compactions_ar
   others = others;
 })
 
--- one mark more
+-- one more mark
 pub added_shown : (journal : JournalRead) (table : JobTable) (step : Step) (mark : Mark) (before after : Files) → IsShownWith journal table before → IsLegal table step → AddsMark table step mark → GivesReadJournal (map.get after journal_file) (added journal mark) → AgreeElsewhere temporary_file journal_file before after → Shows after (after_step table step)
 added_shown journal table step mark before after is legal adds gives others =
     let drawn : is_drawn table.last mark ≡ true = step_drawn before table step mark (by_name before table is.shows) legal adds in

@@ -1,4 +1,4 @@
--- What a survey has found is what a store keeps: a sound table, and marks that tell of the same jobs.
+-- What a scan has found is what a store keeps: a sound table, and marks that tell of the same jobs.
 use Rattle.std.proofs.Common.{◌≡◌, ℕ, ℤ, ◌≤◌, Bool, true, false, cond, List, Option, Some, None, [], ◌∷◌, sym, ap, subst, ◌∙◌, refl}
 use Rattle.std.specs.Prelude.{◌==◌, IfSome, IsSome, IsTrue, not, is_some, option_map}
 use Rattle.std.specs.Option.{option_or}
@@ -12,7 +12,7 @@ use Rattle.start_journal.specs.declared.mark.Mark.TheVariants.{Removed, Started,
 use Rattle.start_journal.specs.Journals.{AreWritable, are_drawn}
 use Rattle.start_journal.specs.Marks.{AreLegalMarks, batch_second, first_of_two, is_decided, is_forgotten, last_batch, start_second, started_at}
 use Rattle.start_journal.specs.Slots.{IsWritable}
-use Rattle.clock_range.specs.ClockRange.{IsClockSecond}
+use Rattle.host_calls.specs.ClockRange.{IsClockSecond}
 use Rattle.std.proofs.lemmas.Bool.{and_from, eqb-true}
 use Rattle.spool_shows.specs.JobFiles.{JobFile, file_of}
 use Rattle.spool_shows.specs.Shown.{damage_of_jobs, job_of, live_entry, starts_damage, state_since, table_shown}
@@ -21,9 +21,9 @@ use Rattle.spool_shows.proofs.Membership.{Has, contained, found_has, made_has}
 use Rattle.spool_shows.proofs.SoundLemmas.{fine_is_whole, neither_first, no_damage_is_fine}
 use Rattle.spool_shows.proofs.StepLegal.{is_started_since, unnamed}
 use Rattle.step_runs.specs.WithoutScripts.{without_scripts, entry_without_script, job_without_script}
-use Rattle.spool_store.specs.declared.surveyed_job.SurveyedJob.{SurveyedJob}
+use Rattle.spool_store.specs.declared.scanned_job.ScannedJob.{ScannedJob}
 use Rattle.start_journal.specs.Lifecycles.{fate_at, remembered_at}
-use Rattle.spool_store.specs.inside.SurveyedJobs.{file_surveyed, files_surveyed}
+use Rattle.spool_store.specs.inside.ScannedJobs.{file_scanned, files_scanned}
 use Rattle.spool_store.specs.Stored.{AreInOldForm, IsEntryBy, IsLiveBy, IsStateBy, IsStored, RunsSince}
 use Rattle.spool_store.specs.inside.Tables.{AreUndecided, IsDrawnBy, IsTableShown}
 use Rattle.spool_store.proofs.PrefixLemmas.{at_shown}
@@ -89,13 +89,13 @@ runs_since : (since : Option ℤ) → IfSome since IsClockSecond → RunsSince (
 runs_since (Some second) in_range = in_range
 runs_since None in_range = tt
 
--- the marks of a number that is not decided tell of its state
+-- the marks of a number that is not finished tell of its state
 state_by : (marks : List Mark) (number : ℕ) (since : Option ℤ) → started_at number marks ≡ since → AreLegalMarks marks → is_decided number marks ≡ false → IsStateBy marks number (state_since since)
 state_by marks number None is legal undecided = unnamed number marks undecided (not_forgotten marks number legal undecided) is
 state_by marks number (Some second) is legal undecided =
     and_from _ (not (is_decided number marks)) (is_started_since number marks second is) (ap not undecided)
 
--- a number whose fate is remembered is decided and not forgotten
+-- a number whose fate is remembered is finished and not forgotten
 remembered_is : (marks : List Mark) (number : ℕ) (fate : Fate) → remembered_at number marks ≡ Some fate → (is_decided number marks ≡ true) × (is_forgotten number marks ≡ false)
 remembered_is marks number fate is = by_test (is_forgotten number marks) refl is where
   by_test : (forgotten : Bool) → is_forgotten number marks ≡ forgotten → cond forgotten None (fate_at number marks) ≡ Some fate → (is_decided number marks ≡ true) × (is_forgotten number marks ≡ false)
@@ -104,8 +104,8 @@ remembered_is marks number fate is = by_test (is_forgotten number marks) refl is
 
 -- The table.
 
--- a survey has found these marks and these files, and no damage
-pub record HasSurveyed (last : ℕ) (marks : List Mark) (files : List JobFile) : Type 0 where
+-- a scan has found these marks and these files, and no damage
+pub record HasScanned (last : ℕ) (marks : List Mark) (files : List JobFile) : Type 0 where
   pub few : last ≤ LAST_NUMBER
   pub legal : AreLegalMarks marks
   pub writable : AreWritable marks
@@ -115,9 +115,9 @@ pub record HasSurveyed (last : ℕ) (marks : List Mark) (files : List JobFile) :
   pub whole : damage_of_jobs last marks files ≡ None
 
 -- a file that was seen has the name of a job in range
-pub surveyed_named : (surveyed : List SurveyedJob) (file : JobFile) → Has (files_surveyed surveyed) file → IsInRange file.job.queue file.job.number file.job.minute
-surveyed_named surveyed file has =
-    let of : (one : SurveyedJob) × Has surveyed one × (file_surveyed one ≡ file) = made_has file_surveyed surveyed file has in
+pub scanned_named : (scanned : List ScannedJob) (file : JobFile) → Has (files_scanned scanned) file → IsInRange file.job.queue file.job.number file.job.minute
+scanned_named scanned file has =
+    let of : (one : ScannedJob) × Has scanned one × (file_scanned one ≡ file) = made_has file_scanned scanned file has in
     subst (λ (f : JobFile). IsInRange f.job.queue f.job.number f.job.minute) of.2
     (record { letter = of.0.job.letter; drawn = of.0.job.drawn; in_calendar = of.0.job.in_calendar })
 
@@ -125,13 +125,13 @@ surveyed_named surveyed file has =
 abbrev entry_of : List Mark → Option JobFile → Option Fate → Option JobEntry
 entry_of marks found given = option_map entry_without_script (option_or (option_map (λ file. (live_entry marks file).1) found) (option_map Done given))
 
-module _ (last : ℕ) (marks : List Mark) (files : List JobFile) (surveyed : HasSurveyed last marks files) where
+module _ (last : ℕ) (marks : List Mark) (files : List JobFile) (scanned : HasScanned last marks files) where
   -- the marks tell of the job of a file
   live_by : (file : JobFile) → Has files file → IsLiveBy marks file.job.number (job_without_script (job_of file)) (state_since (started_at file.job.number marks))
   live_by file has = record {
-    named = record { letter = (surveyed.named file has).letter; in_calendar = (surveyed.named file has).in_calendar };
-    since = runs_since (started_at file.job.number marks) (since_in_range file.job.number marks surveyed.writable);
-    state_by = state_by marks file.job.number (started_at file.job.number marks) refl surveyed.legal (surveyed.undecided file (contained files file has));
+    named = record { letter = (scanned.named file has).letter; in_calendar = (scanned.named file has).in_calendar };
+    since = runs_since (started_at file.job.number marks) (since_in_range file.job.number marks scanned.writable);
+    state_by = state_by marks file.job.number (started_at file.job.number marks) refl scanned.legal (scanned.undecided file (contained files file has));
   }
 
   -- and of each entry
@@ -148,10 +148,10 @@ module _ (last : ℕ) (marks : List Mark) (files : List JobFile) (surveyed : Has
   number_in : (number : ℕ) (found : Option JobFile) (given : Option Fate) → file_of number files ≡ found → remembered_at number marks ≡ given → IsSome (entry_of marks found given) → IsDrawnBy last number
   number_in number (Some file) given is other some =
       let there : Has files file × ((file.job.number == number) ≡ true) = found_has (λ (f : JobFile). f.job.number == number) files file is in
-      let whole = (neither_first _ (starts_damage marks files 0 marks) surveyed.whole).0 in
+      let whole = (neither_first _ (starts_damage marks files 0 marks) scanned.whole).0 in
       subst (IsDrawnBy last) (eqb-true file.job.number number there.1)
-      ((surveyed.named file there.0).drawn, (fine_is_whole last [] files file (no_damage_is_fine last [] files whole) there.0).drawn)
-  number_in number None (Some fate) is other some = number_drawn last marks number surveyed.writable surveyed.drawn (remembered_is marks number fate other).0
+      ((scanned.named file there.0).drawn, (fine_is_whole last [] files file (no_damage_is_fine last [] files whole) there.0).drawn)
+  number_in number None (Some fate) is other some = number_drawn last marks number scanned.writable scanned.drawn (remembered_is marks number fate other).0
   number_in number None None is other some = let impossible : false ≡ true = some in cc
 
   -- what the table has under a number
@@ -165,13 +165,13 @@ module _ (last : ℕ) (marks : List Mark) (files : List JobFile) (surveyed : Has
     stored : IsStored (record { table = without_scripts (table_shown last marks files); journal = record { marks = marks; free = free }; old_form = old_form })
     stored = record {
       sound = record {
-        few = surveyed.few;
+        few = scanned.few;
         each = λ number some.
             let drawn = number_in number (file_of number files) (remembered_at number marks) refl refl (subst IsSome (under number) some) in
             record { some = drawn.0; drawn = drawn.1 };
       };
-      drawn = surveyed.drawn;
+      drawn = scanned.drawn;
       entries = λ number. subst (IsEntryBy marks number) (sym (under number)) (entry_by number (file_of number files) (remembered_at number marks) refl refl);
-      batch = last_batch_in_range marks surveyed.writable;
+      batch = last_batch_in_range marks scanned.writable;
       old_form = are_old_form;
     }

@@ -5,7 +5,7 @@ use Rattle.std.specs.FinMap as finite
 use Rattle.std.specs.List.{filter, list_any}
 use Rattle.std.proofs.lemmas.Bool.{eqb-true}
 use Rattle.std.proofs.lemmas.List.{take_all, take_more}
-use Rattle.host_calls.specs.Folder.{Files}
+use Rattle.host_calls.specs.Directory.{Files}
 use Rattle.spool_model.specs.Numbers.{number_digits}
 use Rattle.start_journal.specs.declared.mark.Mark.{Mark}
 use Rattle.start_journal.specs.Journals.{JournalRead}
@@ -21,12 +21,12 @@ use Rattle.spool_shows.proofs.OneMark.{ok_same}
 use Rattle.spool_shows.proofs.ShownEntries.{passes_same}
 use Rattle.spool_shows.proofs.StepLaws.{by_name}
 use Rattle.step_runs.specs.Current.{HaveForms, is_new_form}
-use Rattle.spool_store.specs.declared.surveyed_job.SurveyedJob.{SurveyedJob}
-use Rattle.spool_store.specs.declared.folder_scan.RecoveryScan.{RecoveryScan}
-use Rattle.spool_store.specs.inside.SurveyedJobs.{file_surveyed, files_surveyed, old_form_numbers}
-use Rattle.spool_store.specs.inside.Survey.{IsSurvey, is_decided_job, is_left_over}
+use Rattle.spool_store.specs.declared.scanned_job.ScannedJob.{ScannedJob}
+use Rattle.spool_store.specs.declared.directory_scan.RecoveryScan.{RecoveryScan}
+use Rattle.spool_store.specs.inside.ScannedJobs.{file_scanned, files_scanned, old_form_numbers}
+use Rattle.spool_store.specs.inside.Scan.{IsScan, is_decided_job, is_left_over}
 use Rattle.spool_store.specs.Stored.{AreInOldForm}
-use Rattle.spool_store.proofs.SurveyLemmas.{surveyed_at, surveyed_after, surveyed_inside}
+use Rattle.spool_store.proofs.ScanLemmas.{scanned_at, scanned_after, scanned_inside}
 
 -- a test that fails in the negative passes
 was_true : (b : Bool) → not b ≡ false → b ≡ true
@@ -82,21 +82,21 @@ module _ (last : ℕ) (marks : List Mark) (files : Files) (sound : AreSound last
         (has_filtered (λ (one : JobFile). not one.job.new_form) (job_files marks (finite.entries files)) file (file_is_counted marks files file is) (ap not form)) in
         form ∙ sym (ap not (any_passes (λ (other : ℕ). other == file.job.number) numbers file.job.number there (passes_same file.job.number file.job.number refl)))
 
--- a name that is there has bytes
+-- a name that exists has bytes
 held_there : (found : Option (List ℕ)) → IsSome found → (bytes : List ℕ) × (found ≡ Some bytes)
 held_there (Some bytes) there = (bytes, refl)
 held_there None there = let impossible : false ≡ true = there in cc
 
--- What is left of a folder that was surveyed: the files that count, as they were.
-pub forms_found : (files : Files) (survey : RecoveryScan) (found : IsSurvey files survey) (left : Files) → ((name : List ℕ) → is_left_over survey.journal.marks name ≡ false → finite.get left name ≡ finite.get files name) → ((name : List ℕ) → is_left_over survey.journal.marks name ≡ true → finite.get left name ≡ None) → HaveForms survey.old_form.items found.table.last left
-forms_found files survey found left stays gone = subst (λ list. HaveForms list found.table.last left) (sym found.old_form) (record {
+-- What is left of a directory that was surveyed: the files that count, as they were.
+pub forms_found : (files : Files) (scan : RecoveryScan) (found : IsScan files scan) (left : Files) → ((name : List ℕ) → is_left_over scan.journal.marks name ≡ false → finite.get left name ≡ finite.get files name) → ((name : List ℕ) → is_left_over scan.journal.marks name ≡ true → finite.get left name ≡ None) → HaveForms scan.old_form.items found.table.last left
+forms_found files scan found left stays gone = subst (λ list. HaveForms list found.table.last left) (sym found.old_form) (record {
   each = λ name job named there. by_left name job named there (is_left_over marks name) refl;
   drawn = λ number known.
       let one : HasOldForm found.table.last marks files sound number = found_old_form found.table.last marks files sound number known in
       subst (λ n. n ≤ found.table.last) one.number_is (sound.each one.file one.is).drawn;
 }) where
   marks : List Mark
-  marks = survey.journal.marks
+  marks = scan.journal.marks
 
   shows : ShowsByName files found.table
   shows = by_name files found.table found.shows
@@ -129,7 +129,7 @@ old_form_same change same (file ∷ files) =
       by_test true rest = λ i. (same file i).number ∷ rest i
       by_test false rest = rest
 
--- one file more
+-- one more file
 pub old_form_more : (files : List JobFile) (file : JobFile) → old_form_numbers (files ++ file ∷ []) ≡ old_form_numbers files ++ old_form_numbers (file ∷ [])
 old_form_more [] file = refl
 old_form_more (first ∷ files) file = by_test (not first.job.new_form) (old_form_more files file) where
@@ -138,34 +138,34 @@ old_form_more (first ∷ files) file = by_test (not first.job.new_form) (old_for
   by_test false rest = rest
 
 -- the numbers of the files up to the next one
-next_numbers : (surveyed : List SurveyedJob) (place : ℕ) (file : SurveyedJob) → place < length surveyed → file ≡ get_or surveyed place file → old_form_numbers (take (place + 1) (files_surveyed surveyed)) ≡ old_form_numbers (take place (files_surveyed surveyed)) ++ old_form_numbers (file_surveyed file ∷ [])
-next_numbers surveyed place file inside here =
-    ap old_form_numbers (take_more (files_surveyed surveyed) place (file_surveyed file) (surveyed_inside surveyed place inside) ∙ ap (λ one. take place (files_surveyed surveyed) ++ one ∷ []) (surveyed_at surveyed place file inside here))
-    ∙ old_form_more (take place (files_surveyed surveyed)) (file_surveyed file)
+next_numbers : (scanned : List ScannedJob) (place : ℕ) (file : ScannedJob) → place < length scanned → file ≡ get_or scanned place file → old_form_numbers (take (place + 1) (files_scanned scanned)) ≡ old_form_numbers (take place (files_scanned scanned)) ++ old_form_numbers (file_scanned file ∷ [])
+next_numbers scanned place file inside here =
+    ap old_form_numbers (take_more (files_scanned scanned) place (file_scanned file) (scanned_inside scanned place inside) ∙ ap (λ one. take place (files_scanned scanned) ++ one ∷ []) (scanned_at scanned place file inside here))
+    ∙ old_form_more (take place (files_scanned scanned)) (file_scanned file)
 
 -- with one that has a name in the old form, and with one that has a new one
-pub next_is_old_form : (surveyed : List SurveyedJob) (place : ℕ) (file : SurveyedJob) (numbers after : List ℕ) → place < length surveyed → file ≡ get_or surveyed place file → file.job.new_form ≡ false → numbers ≡ old_form_numbers (take place (files_surveyed surveyed)) → after ≡ numbers ++ file.job.number ∷ [] → after ≡ old_form_numbers (take (place + 1) (files_surveyed surveyed))
-next_is_old_form surveyed place file numbers after inside here form before is =
+pub next_is_old_form : (scanned : List ScannedJob) (place : ℕ) (file : ScannedJob) (numbers after : List ℕ) → place < length scanned → file ≡ get_or scanned place file → file.job.new_form ≡ false → numbers ≡ old_form_numbers (take place (files_scanned scanned)) → after ≡ numbers ++ file.job.number ∷ [] → after ≡ old_form_numbers (take (place + 1) (files_scanned scanned))
+next_is_old_form scanned place file numbers after inside here form before is =
     is ∙ ap (λ list. list ++ file.job.number ∷ []) before
-    ∙ sym (next_numbers surveyed place file inside here ∙ ap (λ new_form. old_form_numbers (take place (files_surveyed surveyed)) ++ map number_of (cond (not new_form) (file_surveyed file ∷ []) [])) form)
+    ∙ sym (next_numbers scanned place file inside here ∙ ap (λ new_form. old_form_numbers (take place (files_scanned scanned)) ++ map number_of (cond (not new_form) (file_scanned file ∷ []) [])) form)
 
-pub next_is_new_form : (surveyed : List SurveyedJob) (place : ℕ) (file : SurveyedJob) (numbers after : List ℕ) → place < length surveyed → file ≡ get_or surveyed place file → file.job.new_form ≡ true → numbers ≡ old_form_numbers (take place (files_surveyed surveyed)) → after ≡ numbers → after ≡ old_form_numbers (take (place + 1) (files_surveyed surveyed))
-next_is_new_form surveyed place file numbers after inside here form before is =
+pub next_is_new_form : (scanned : List ScannedJob) (place : ℕ) (file : ScannedJob) (numbers after : List ℕ) → place < length scanned → file ≡ get_or scanned place file → file.job.new_form ≡ true → numbers ≡ old_form_numbers (take place (files_scanned scanned)) → after ≡ numbers → after ≡ old_form_numbers (take (place + 1) (files_scanned scanned))
+next_is_new_form scanned place file numbers after inside here form before is =
     is ∙ before
-    ∙ sym (next_numbers surveyed place file inside here ∙ ap (λ new_form. old_form_numbers (take place (files_surveyed surveyed)) ++ map number_of (cond (not new_form) (file_surveyed file ∷ []) [])) form ∙ append-nil (old_form_numbers (take place (files_surveyed surveyed))))
+    ∙ sym (next_numbers scanned place file inside here ∙ ap (λ new_form. old_form_numbers (take place (files_scanned scanned)) ++ map number_of (cond (not new_form) (file_scanned file ∷ []) [])) form ∙ append-nil (old_form_numbers (take place (files_scanned scanned))))
 
 -- and with all of them
-pub all_numbers : (surveyed : List SurveyedJob) (place : ℕ) (numbers : List ℕ) → length surveyed ≤ place → numbers ≡ old_form_numbers (take place (files_surveyed surveyed)) → numbers ≡ old_form_numbers (files_surveyed surveyed)
-all_numbers surveyed place numbers later is = is ∙ ap old_form_numbers (take_all place (files_surveyed surveyed) (surveyed_after surveyed place later))
+pub all_numbers : (scanned : List ScannedJob) (place : ℕ) (numbers : List ℕ) → length scanned ≤ place → numbers ≡ old_form_numbers (take place (files_scanned scanned)) → numbers ≡ old_form_numbers (files_scanned scanned)
+all_numbers scanned place numbers later is = is ∙ ap old_form_numbers (take_all place (files_scanned scanned) (scanned_after scanned place later))
 
 -- Each of the numbers has as many digits as a name in the old form has.
-pub are_old_form : (surveyed : List SurveyedJob) → AreInOldForm (old_form_numbers (files_surveyed surveyed))
-are_old_form surveyed number known =
-    let any : list_any (λ other. other == number) (old_form_numbers (files_surveyed surveyed)) ≡ true = was_true _ known in
-    let one = one_passes (λ (other : ℕ). other == number) (old_form_numbers (files_surveyed surveyed)) any in
-    let made = made_has number_of (filter is_old_form (files_surveyed surveyed)) one.0 one.1 in
-    let kept = filtered_has is_old_form (files_surveyed surveyed) made.0 made.1 in
-    let found = made_has file_surveyed surveyed made.0 kept.0 in
+pub are_old_form : (scanned : List ScannedJob) → AreInOldForm (old_form_numbers (files_scanned scanned))
+are_old_form scanned number known =
+    let any : list_any (λ other. other == number) (old_form_numbers (files_scanned scanned)) ≡ true = was_true _ known in
+    let one = one_passes (λ (other : ℕ). other == number) (old_form_numbers (files_scanned scanned)) any in
+    let made = made_has number_of (filter is_old_form (files_scanned scanned)) one.0 one.1 in
+    let kept = filtered_has is_old_form (files_scanned scanned) made.0 made.1 in
+    let found = made_has file_scanned scanned made.0 kept.0 in
     let number_is : found.0.job.number ≡ number = ap number_of found.2 ∙ made.2 ∙ eqb-true one.0 number one.2 in
     let form : found.0.job.new_form ≡ false = was_false found.0.job.new_form (ap is_old_form found.2 ∙ kept.1) in
     subst (λ n. n < 16 ^ number_digits false) number_is (subst (λ new_form. found.0.job.number < 16 ^ number_digits new_form) form found.0.job.fits)

@@ -1,21 +1,21 @@
--- What a recovery leaves: each moment shows what the folder showed, and at the end what is kept is current.
+-- What a recovery leaves: each moment shows what the directory showed, and at the end what is kept is current.
 use Rattle.std.proofs.Common.{◌≡◌, ℕ, true, false, List, Option, Some, None, [], sym, ap, subst, ◌∙◌, refl, inl, inr, arith, ◌∷◌}
 use Rattle.std.specs.Prelude.{◌≢◌, Contains, IsErrAnd, Ok, Err, Result, is_some}
 use Rattle.std.specs.FinMap as finite
 use Rattle.std.specs.List.{filter}
 use Rattle.host_calls.specs.declared.fault.HostFault.{HostFault}
 use Rattle.host_calls.specs.declared.fault.HostFault.TheVariants as host
-use Rattle.host_calls.specs.Folder.{Files, Folder, IsImage, IsInNoImage, IsSettled, IsSyncedInPart, reading_of, settled}
+use Rattle.host_calls.specs.Directory.{Files, Directory, IsImage, IsInNoImage, IsSettled, IsSyncedInPart, reading_of, settled}
 use Rattle.host_calls.specs.World.{FileCall, World, reading}
-use Rattle.host_calls.proofs.FolderLemmas.{reading_is_image, reading_of-settled, settled_image}
+use Rattle.host_calls.proofs.DirectoryLemmas.{reading_is_image, reading_of-settled, settled_image}
 use Rattle.host_calls.proofs.WorldLemmas.{at_end}
 use Rattle.sequence_file.specs.Sequence.{sequence_file}
 use Rattle.whole_file.specs.Temporary.{temporary_file}
 use Rattle.start_journal.specs.declared.mark.Mark.{Mark}
-use Rattle.start_journal.specs.Changing.{GivesReadJournal}
+use Rattle.start_journal.specs.JournalChange.{GivesReadJournal}
 use Rattle.start_journal.specs.Journals.{journal_file}
 use Rattle.start_journal.proofs.GivesLemmas.{recalled_gives}
-use Rattle.whole_file.specs.Clearing.{AreCleared, AreFiles}
+use Rattle.whole_file.specs.Removal.{AreCleared, AreFiles}
 use Rattle.whole_file.specs.Others.{ChangesFiles, LeavesOthers}
 use Rattle.whole_file.proofs.OthersLemmas.{changes_none, changes_then}
 use Rattle.spool_shows.specs.ByName.{ShowsByName}
@@ -30,11 +30,11 @@ use Rattle.step_runs.specs.Calls.{ShowsAsBefore}
 use Rattle.step_runs.specs.Current.{HaveForms, IsCurrent, IsSpoolName, Kept}
 use Rattle.host_calls.specs.declared.store_fault.StoreFault.{StoreFault}
 use Rattle.host_calls.specs.declared.store_fault.StoreFault.TheVariants.{Damaged, FileFault, Memory}
-use Rattle.spool_store.specs.declared.folder_scan.RecoveryScan.{RecoveryScan}
+use Rattle.spool_store.specs.declared.directory_scan.RecoveryScan.{RecoveryScan}
 use Rattle.host_calls.specs.Damages.{IfDamaged}
 use Rattle.host_calls.specs.StoreFaults.{IsReadingFault, store_fault_of}
-use Rattle.spool_store.specs.inside.Survey.{IsSurvey, is_left_over}
-use Rattle.spool_store.specs.Recovering.{IsRecovered, Recovered, ShowsAsBeforeNewFormNames, ShowsTheSame}
+use Rattle.spool_store.specs.inside.Scan.{IsScan, is_left_over}
+use Rattle.spool_store.specs.Recovery.{IsRecovered, Recovered, ShowsAsBeforeNewFormNames, ShowsTheSame}
 use Rattle.whole_file.proofs.ChangesJoined.{changes_join}
 use Rattle.spool_store.proofs.RecoveryForms.{forms_found}
 use Rattle.spool_store.proofs.RecoveryNames.{are_files, counting_stays, decided_left, journal_stays, left_among, left_is_spool, left_there, sequence_stays, stays_apart, temporary_left}
@@ -42,80 +42,80 @@ use Rattle.spool_store.proofs.RecoveryNames.{are_files, counting_stays, decided_
 -- Settling.
 
 -- an image of the start shows what it showed
-as_before : (start : Folder) (image : Files) → IsImage start image → ShowsAsBefore start image
+as_before : (start : Directory) (image : Files) → IsImage start image → ShowsAsBefore start image
 as_before start image is = record { from = image; was = is; same = refl; others = λ name other. refl }
 
--- a folder that is settled has no new image
-settled_before : (start new : Folder) (image : Files) → IsSettled start new → IsImage new image → IsImage start image
+-- a directory that is settled has no new image
+settled_before : (start new : Directory) (image : Files) → IsSettled start new → IsImage new image → IsImage start image
 settled_before start new image done is =
-    subst (IsImage start) (sym (settled_image start image (subst (λ folder. IsImage folder image) done is))) (reading_is_image start)
+    subst (IsImage start) (sym (settled_image start image (subst (λ directory. IsImage directory image) done is))) (reading_is_image start)
 
--- so what a settling folder may leave shows what was shown
-pub settling : {T : Type 0} (old new : World) (result : Result T HostFault) → FileCall IsSettled IsSyncedInPart old new result → ChangesFiles (ShowsAsBefore old.now.folder) old new
+-- so what a settling directory may leave shows what was shown
+pub settling : {T : Type 0} (old new : World) (result : Result T HostFault) → FileCall IsSettled IsSyncedInPart old new result → ChangesFiles (ShowsAsBefore old.now.directory) old new
 settling old new result call =
-    changes_then (ShowsAsBefore old.now.folder) IsSettled IsSyncedInPart old old new result (changes_none (ShowsAsBefore old.now.folder) old) call (λ image within. elim within [
-      | inl is ↦ as_before old.now.folder image is
-      | inr done ↦ as_before old.now.folder image (settled_before old.now.folder done.0 image done.1 done.2)
+    changes_then (ShowsAsBefore old.now.directory) IsSettled IsSyncedInPart old old new result (changes_none (ShowsAsBefore old.now.directory) old) call (λ image within. elim within [
+      | inl is ↦ as_before old.now.directory image is
+      | inr done ↦ as_before old.now.directory image (settled_before old.now.directory done.0 image done.1 done.2)
     ])
 
 -- and the reading is that of before, whatever came of it
 settling_reads : {T : Type 0} (old new : World) (result : Result T HostFault) → FileCall IsSettled IsSyncedInPart old new result → reading new ≡ reading old
-settling_reads old new (Ok value) call = ap reading_of call.outcome ∙ reading_of-settled old.now.folder
+settling_reads old new (Ok value) call = ap reading_of call.outcome ∙ reading_of-settled old.now.directory
 settling_reads old new (Err host.Failed) call = elim call.outcome [ inl same ↦ ap reading_of same | inr part ↦ part.reading ]
 settling_reads old new (Err host.Memory) call = ap reading call.outcome
 
-settling_shows : {T : Type 0} (old new : World) (result : Result T HostFault) → FileCall IsSettled IsSyncedInPart old new result → ShowsTheSame old.now.folder new.now.folder
+settling_shows : {T : Type 0} (old new : World) (result : Result T HostFault) → FileCall IsSettled IsSyncedInPart old new result → ShowsTheSame old.now.directory new.now.directory
 settling_shows old new result call = ap shown_by (settling_reads old new result call)
 
--- What a folder showed by the old form alone.
+-- What a directory showed by the old form alone.
 
 -- what is kept is current with it
-pub old_form_recovered : (old new : Folder) (kept : Kept) → IsRecovered old new kept → ShowsAsBeforeNewFormNames old new kept
+pub old_form_recovered : (old new : Directory) (kept : Kept) → IsRecovered old new kept → ShowsAsBeforeNewFormNames old new kept
 old_form_recovered old new kept recovered = λ table none shown.
     subst (IsCurrent kept new) (ok_same (shown_by (reading_of old)) recovered.shown (old_form_tables_are_shown (reading_of old) table none shown)) recovered.current
 
--- The survey of the settled folder.
+-- The scan of the settled directory.
 
--- the folder was settled and surveyed, and no file has changed
-pub record HasSettled (old surveyed : World) (survey : RecoveryScan) : Type 0 where
-  pub files : ChangesFiles (ShowsAsBefore old.now.folder) old surveyed
-  pub settled : surveyed.now.folder ≡ settled old.now.folder
-  pub found : IsSurvey (reading old) survey
+-- the directory was settled and surveyed, and no file has changed
+pub record HasSettled (old scanned : World) (scan : RecoveryScan) : Type 0 where
+  pub files : ChangesFiles (ShowsAsBefore old.now.directory) old scanned
+  pub settled : scanned.now.directory ≡ settled old.now.directory
+  pub found : IsScan (reading old) scan
 
 -- the reading is that of before
-settled_reading : (old new : World) → IsSettled old.now.folder new.now.folder → reading new ≡ reading old
-settled_reading old new done = ap reading_of done ∙ reading_of-settled old.now.folder
+settled_reading : (old new : World) → IsSettled old.now.directory new.now.directory → reading new ≡ reading old
+settled_reading old new done = ap reading_of done ∙ reading_of-settled old.now.directory
 
--- a survey of a folder that was settled
-pub has_settled : {T : Type 0} (old settled surveyed : World) (value : T) (survey : RecoveryScan) → FileCall IsSettled IsSyncedInPart old settled (Ok value) → surveyed ≡ settled → IsSurvey (reading settled) survey → HasSettled old surveyed survey
-has_settled old settled surveyed value survey call same is = record {
-  files = subst (ChangesFiles (ShowsAsBefore old.now.folder) old) (sym same) (settling old settled (Ok value) call);
-  settled = ap (λ (world : World). world.now.folder) same ∙ call.outcome;
-  found = subst (λ files. IsSurvey files survey) (settled_reading old settled call.outcome) is;
+-- a scan of a directory that was settled
+pub has_settled : {T : Type 0} (old settled scanned : World) (value : T) (scan : RecoveryScan) → FileCall IsSettled IsSyncedInPart old settled (Ok value) → scanned ≡ settled → IsScan (reading settled) scan → HasSettled old scanned scan
+has_settled old settled scanned value scan call same is = record {
+  files = subst (ChangesFiles (ShowsAsBefore old.now.directory) old) (sym same) (settling old settled (Ok value) call);
+  settled = ap (λ (world : World). world.now.directory) same ∙ call.outcome;
+  found = subst (λ files. IsScan files scan) (settled_reading old settled call.outcome) is;
 }
 
--- a survey that failed: no file has changed
-pub only_settled : {T : Type 0} (old settled surveyed : World) (result : Result T HostFault) → FileCall IsSettled IsSyncedInPart old settled result → surveyed ≡ settled → ChangesFiles (ShowsAsBefore old.now.folder) old surveyed
-only_settled old settled surveyed result call same = subst (ChangesFiles (ShowsAsBefore old.now.folder) old) (sym same) (settling old settled result call)
+-- a scan that failed: no file has changed
+pub only_settled : {T : Type 0} (old settled scanned : World) (result : Result T HostFault) → FileCall IsSettled IsSyncedInPart old settled result → scanned ≡ settled → ChangesFiles (ShowsAsBefore old.now.directory) old scanned
+only_settled old settled scanned result call same = subst (ChangesFiles (ShowsAsBefore old.now.directory) old) (sym same) (settling old settled result call)
 
 -- where the settling failed, nothing of what the reading shows has changed
 pub unsettled : {T : Type 0} (old settled : World) (call_result : Result T HostFault) (fault : HostFault) (result : Result Kept StoreFault) → FileCall IsSettled IsSyncedInPart old settled call_result → IsErrAnd result (λ one. one ≡ store_fault_of fault)
-    → Recovered old.now.folder settled.now.folder result
+    → Recovered old.now.directory settled.now.directory result
 unsettled old settled call_result fault (Ok kept) call is = absurd is
-unsettled old settled call_result fault (Err other) call is = subst (λ one. Recovered old.now.folder settled.now.folder (Err one)) (sym is) (by_fault fault) where
-  by_fault : (one : HostFault) → Recovered old.now.folder settled.now.folder (Err (store_fault_of one))
+unsettled old settled call_result fault (Err other) call is = subst (λ one. Recovered old.now.directory settled.now.directory (Err one)) (sym is) (by_fault fault) where
+  by_fault : (one : HostFault) → Recovered old.now.directory settled.now.directory (Err (store_fault_of one))
   by_fault host.Failed = settling_shows old settled call_result call
   by_fault host.Memory = settling_shows old settled call_result call
 
 -- and where it answers a damage, the reading shows it
 pub settled_damage : {T : Type 0} (old settled new : World) (value : T) (fault : StoreFault) (result : Result Kept StoreFault) → FileCall IsSettled IsSyncedInPart old settled (Ok value) → new ≡ settled → IsErrAnd result (λ one. one ≡ fault) → IsReadingFault fault → IfDamaged {T = RecoveryScan} Damaged (λ damage. shown_by (reading settled) ≡ Err damage) (Err fault)
-    → Recovered old.now.folder new.now.folder result
+    → Recovered old.now.directory new.now.directory result
 settled_damage old settled new value fault (Ok kept) call same is of_reading damaged = absurd is
-settled_damage old settled new value fault (Err other) call same is of_reading damaged = subst (λ one. Recovered old.now.folder new.now.folder (Err one)) (sym is) (by_fault fault of_reading damaged) where
-  shows_still : ShowsTheSame old.now.folder new.now.folder
+settled_damage old settled new value fault (Err other) call same is of_reading damaged = subst (λ one. Recovered old.now.directory new.now.directory (Err one)) (sym is) (by_fault fault of_reading damaged) where
+  shows_still : ShowsTheSame old.now.directory new.now.directory
   shows_still = ap (λ (world : World). shown_by (reading world)) same ∙ settling_shows old settled (Ok value) call
 
-  by_fault : (one : StoreFault) → IsReadingFault one → IfDamaged {T = RecoveryScan} Damaged (λ damage. shown_by (reading settled) ≡ Err damage) (Err one) → Recovered old.now.folder new.now.folder (Err one)
+  by_fault : (one : StoreFault) → IsReadingFault one → IfDamaged {T = RecoveryScan} Damaged (λ damage. shown_by (reading settled) ≡ Err damage) (Err one) → Recovered old.now.directory new.now.directory (Err one)
   by_fault (Damaged damage) of shows = ap shown_by (sym (settled_reading old settled call.outcome)) ∙ shows damage refl
   by_fault Memory of shows = shows_still
   by_fault FileFault of shows = shows_still
@@ -131,30 +131,30 @@ settled_untouched old settled new value result call same = λ damage is. ap read
 none_among : (name : List ℕ) → Contains [] name → ⊥
 none_among name among = omega (arith, among.1)
 
-module _ (old surveyed : World) (survey : RecoveryScan) (at : HasSettled old surveyed survey) (names : List (List ℕ)) (same : names ≡ survey.leftover.items) where
+module _ (old scanned : World) (scan : RecoveryScan) (at : HasSettled old scanned scan) (names : List (List ℕ)) (same : names ≡ scan.leftover.items) where
   abbrev files : Files
   files = reading old
 
   abbrev marks : List Mark
-  marks = survey.journal.marks
+  marks = scan.journal.marks
 
   -- the names are those that were left over
   are_left : names ≡ filter (is_left_over marks) (finite.keys files)
   are_left = same ∙ at.found.leftover
 
   -- they can be cleared
-  pub can_clear : AreFiles names (reading surveyed)
-  can_clear = subst (AreFiles names) (sym (settled_reading old surveyed at.settled)) (are_files marks files names are_left)
+  pub can_clear : AreFiles names (reading scanned)
+  can_clear = subst (AreFiles names) (sym (settled_reading old scanned at.settled)) (are_files marks files names are_left)
 
   -- at all names but those, the image has what was read
   abbrev IsLeft : Files → Type 0
-  IsLeft image = LeavesOthers (Contains names) surveyed.now.folder image
+  IsLeft image = LeavesOthers (Contains names) scanned.now.directory image
 
-  -- for the reading is the only image of the settled folder
+  -- for the reading is the only image of the settled directory
   agrees : (image : Files) → IsLeft image → (name : List ℕ) → ¬ (Contains names name) → finite.get image name ≡ finite.get files name
   agrees image left name apart =
       left.others name apart
-      ∙ ap (λ (some : Files). finite.get some name) (settled_image old.now.folder left.from (subst (λ folder. IsImage folder left.from) at.settled left.was))
+      ∙ ap (λ (some : Files). finite.get some name) (settled_image old.now.directory left.from (subst (λ directory. IsImage directory left.from) at.settled left.was))
 
   -- so it has what was read at each name that is not left over
   stays : (image : Files) → IsLeft image → (name : List ℕ) → is_left_over marks name ≡ false → finite.get image name ≡ finite.get files name
@@ -165,7 +165,7 @@ module _ (old surveyed : World) (survey : RecoveryScan) (at : HasSettled old sur
   marks_are others has =
       let shows : ShowsByName files at.found.table = by_name files at.found.table at.found.shows in
       sym (had_same files at.found.table others shows has)
-      ∙ had_same files at.found.table marks shows (record { last = at.found.table.last; free = survey.journal.free; number = last_read files at.found.table shows; journal = at.found.journal })
+      ∙ had_same files at.found.table marks shows (record { last = at.found.table.last; free = scan.journal.free; number = last_read files at.found.table shows; journal = at.found.journal })
 
   -- so it shows the same, since names that are left over count for nothing
   shows_same : (image : Files) → IsLeft image → shown_by image ≡ shown_by files
@@ -180,47 +180,47 @@ module _ (old surveyed : World) (survey : RecoveryScan) (at : HasSettled old sur
   others_same image left name other = agrees image left name (λ among. other (left_is_spool marks name (left_there marks files names are_left name among).1))
 
   -- clearing them leaves what shows the same
-  pub clearing : (new : World) → ChangesFiles IsLeft surveyed new → ChangesFiles (ShowsAsBefore old.now.folder) old new
-  clearing new changes = changes_join (ShowsAsBefore old.now.folder) IsLeft old surveyed new at.files changes (λ image left. record {
+  pub clearing : (new : World) → ChangesFiles IsLeft scanned new → ChangesFiles (ShowsAsBefore old.now.directory) old new
+  clearing new changes = changes_join (ShowsAsBefore old.now.directory) IsLeft old scanned new at.files changes (λ image left. record {
     from = files;
-    was = reading_is_image old.now.folder;
+    was = reading_is_image old.now.directory;
     same = shows_same image left;
     others = others_same image left;
   })
 
   -- each image of the end is left so
-  left_at_end : (new : World) → ChangesFiles IsLeft surveyed new → (image : Files) → IsImage new.now.folder image → IsLeft image
+  left_at_end : (new : World) → ChangesFiles IsLeft scanned new → (image : Files) → IsImage new.now.directory image → IsLeft image
   left_at_end new changes image is =
-      (at_end (λ one handed. IsLeft one × (handed ≡ surveyed.now.handed)) surveyed new changes.leaves
+      (at_end (λ one handed. IsLeft one × (handed ≡ scanned.now.handed)) scanned new changes.leaves
       (λ one was. (record { from = one; was = was; others = λ name apart. refl }, refl)) image is).0
 
   -- so where the clearing failed, the reading shows what it showed
-  pub uncleared : (new : World) (fault : HostFault) (result : Result Kept StoreFault) → ChangesFiles IsLeft surveyed new → IsErrAnd result (λ one. one ≡ store_fault_of fault) → Recovered old.now.folder new.now.folder result
+  pub uncleared : (new : World) (fault : HostFault) (result : Result Kept StoreFault) → ChangesFiles IsLeft scanned new → IsErrAnd result (λ one. one ≡ store_fault_of fault) → Recovered old.now.directory new.now.directory result
   uncleared new fault (Ok kept) changes is = absurd is
-  uncleared new fault (Err other) changes is = subst (λ one. Recovered old.now.folder new.now.folder (Err one)) (sym is) (by_fault fault) where
-    shows_still : ShowsTheSame old.now.folder new.now.folder
-    shows_still = shows_same (reading new) (left_at_end new changes (reading new) (reading_is_image new.now.folder))
+  uncleared new fault (Err other) changes is = subst (λ one. Recovered old.now.directory new.now.directory (Err one)) (sym is) (by_fault fault) where
+    shows_still : ShowsTheSame old.now.directory new.now.directory
+    shows_still = shows_same (reading new) (left_at_end new changes (reading new) (reading_is_image new.now.directory))
 
-    by_fault : (one : HostFault) → Recovered old.now.folder new.now.folder (Err (store_fault_of one))
+    by_fault : (one : HostFault) → Recovered old.now.directory new.now.directory (Err (store_fault_of one))
     by_fault host.Failed = shows_still
     by_fault host.Memory = shows_still
 
   -- The end.
 
-  module _ (new : World) (changes : ChangesFiles IsLeft surveyed new) (nothing : names ≡ [] → new ≡ surveyed) (cleared : names ≢ [] → AreCleared names surveyed.now.folder new.now.folder) where
-    -- no change of names is pending: the folder is settled still, or its names were synced
-    certain : new.now.folder.pending ≡ []
-    certain = by_names names nothing cleared where
-      by_names : (list : List (List ℕ)) → (list ≡ [] → new ≡ surveyed) → (list ≢ [] → AreCleared list surveyed.now.folder new.now.folder) → new.now.folder.pending ≡ []
-      by_names [] none some = ap (λ (world : World). world.now.folder.pending) (none refl) ∙ ap (λ (folder : Folder). folder.pending) at.settled
-      by_names (name ∷ others) none some = (some (λ is. cc)).certain
+  module _ (new : World) (changes : ChangesFiles IsLeft scanned new) (nothing : names ≡ [] → new ≡ scanned) (cleared : names ≢ [] → AreCleared names scanned.now.directory new.now.directory) where
+    -- no change of names is pending: the directory is settled still, or its names were synced
+    durable : new.now.directory.pending ≡ []
+    durable = by_names names nothing cleared where
+      by_names : (list : List (List ℕ)) → (list ≡ [] → new ≡ scanned) → (list ≢ [] → AreCleared list scanned.now.directory new.now.directory) → new.now.directory.pending ≡ []
+      by_names [] none some = ap (λ (world : World). world.now.directory.pending) (none refl) ∙ ap (λ (directory : Directory). directory.pending) at.settled
+      by_names (name ∷ others) none some = (some (λ is. cc)).durable
 
     -- each image of the end is left so
-    end_left : (image : Files) → IsImage new.now.folder image → IsLeft image
+    end_left : (image : Files) → IsImage new.now.directory image → IsLeft image
     end_left = left_at_end new changes
 
     -- no file that was left over is in an image
-    gone : (name : List ℕ) → is_left_over marks name ≡ true → IsInNoImage new.now.folder name
+    gone : (name : List ℕ) → is_left_over marks name ≡ true → IsInNoImage new.now.directory name
     gone name over image is = by_held (finite.get files name) refl where
       by_held : (held : Option (List ℕ)) → finite.get files name ≡ held → finite.get image name ≡ None
       by_held None absent =
@@ -230,44 +230,44 @@ module _ (old surveyed : World) (survey : RecoveryScan) (at : HasSettled old sur
           (cleared (λ none. none_among name (subst (λ list. Contains list name) none among))).gone name among image is
 
     -- a name that is not left over reads as before
-    end_reads : (name : List ℕ) → is_left_over marks name ≡ false → finite.get (reading_of new.now.folder) name ≡ finite.get files name
-    end_reads name over = stays (reading_of new.now.folder) (end_left (reading_of new.now.folder) (reading_is_image new.now.folder)) name over
+    end_reads : (name : List ℕ) → is_left_over marks name ≡ false → finite.get (reading_of new.now.directory) name ≡ finite.get files name
+    end_reads name over = stays (reading_of new.now.directory) (end_left (reading_of new.now.directory) (reading_is_image new.now.directory)) name over
 
     -- and has the same bytes in each image
-    same_in_each : (name : List ℕ) → is_left_over marks name ≡ false → (image : Files) → IsImage new.now.folder image → finite.get image name ≡ finite.get (reading_of new.now.folder) name
+    same_in_each : (name : List ℕ) → is_left_over marks name ≡ false → (image : Files) → IsImage new.now.directory image → finite.get image name ≡ finite.get (reading_of new.now.directory) name
     same_in_each name over image is = stays image (end_left image is) name over ∙ sym (end_reads name over)
 
     -- the name of each file that is left has the form that was found
-    forms : HaveForms survey.old_form.items at.found.table.last (reading_of new.now.folder)
-    forms = forms_found files survey at.found (reading_of new.now.folder)
-        (λ name over. end_reads name over) (λ name over. gone name over (reading_of new.now.folder) (reading_is_image new.now.folder))
+    forms : HaveForms scan.old_form.items at.found.table.last (reading_of new.now.directory)
+    forms = forms_found files scan at.found (reading_of new.now.directory)
+        (λ name over. end_reads name over) (λ name over. gone name over (reading_of new.now.directory) (reading_is_image new.now.directory))
 
     -- so what is kept is current
-    current : IsCurrent (record { table = survey.jobs; journal = survey.journal; old_form = survey.old_form.items }) new.now.folder at.found.table
+    current : IsCurrent (record { table = scan.jobs; journal = scan.journal; old_form = scan.old_form.items }) new.now.directory at.found.table
     current = record {
       shows = λ image is. shows_same image (end_left image is) ∙ at.found.shows;
       without_scripts_is = at.found.jobs;
       journal = record {
-        certain = certain;
+        durable = durable;
         same = same_in_each journal_file (journal_stays marks);
-        gives = subst (λ content. GivesReadJournal content survey.journal) (sym (end_reads journal_file (journal_stays marks))) (recalled_gives at.found.table.last (finite.get files journal_file) survey.journal at.found.journal);
+        gives = subst (λ content. GivesReadJournal content scan.journal) (sym (end_reads journal_file (journal_stays marks))) (recalled_gives at.found.table.last (finite.get files journal_file) scan.journal at.found.journal);
         no_temp = gone temporary_file (temporary_left marks);
       };
       sequence = same_in_each sequence_file (sequence_stays marks);
-      decided = λ name job named decided. gone name (decided_left marks name job named decided) (reading_of new.now.folder) (reading_is_image new.now.folder);
+      decided = λ name job named decided. gone name (decided_left marks name job named decided) (reading_of new.now.directory) (reading_is_image new.now.directory);
       forms = forms;
     }
 
     -- other files read as before
-    other_reads : (name : List ℕ) → ¬ (IsSpoolName name) → finite.get (reading_of new.now.folder) name ≡ finite.get files name
-    other_reads name other = others_same (reading_of new.now.folder) (end_left (reading_of new.now.folder) (reading_is_image new.now.folder)) name other
+    other_reads : (name : List ℕ) → ¬ (IsSpoolName name) → finite.get (reading_of new.now.directory) name ≡ finite.get files name
+    other_reads name other = others_same (reading_of new.now.directory) (end_left (reading_of new.now.directory) (reading_is_image new.now.directory)) name other
 
-    -- and the folder is recovered
-    pub recovered : IsRecovered old.now.folder new.now.folder (record { table = survey.jobs; journal = survey.journal; old_form = survey.old_form.items })
+    -- and the directory is recovered
+    pub recovered : IsRecovered old.now.directory new.now.directory (record { table = scan.jobs; journal = scan.journal; old_form = scan.old_form.items })
     recovered = record {
       table = at.found.table;
       shown = at.found.shows;
       current = current;
       others = other_reads;
-      certain_others = λ image is name other. others_same image (end_left image is) name other ∙ sym (other_reads name other);
+      durable_others = λ image is name other. others_same image (end_left image is) name other ∙ sym (other_reads name other);
     }

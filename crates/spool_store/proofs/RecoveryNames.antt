@@ -1,10 +1,10 @@
--- The names of the files that count no more: which they are, and that each belongs to the store.
+-- The names of the files that no longer count: which they are, and that each belongs to the store.
 use Rattle.std.proofs.Common.{◌≡◌, ℕ, true, false, List, Option, Some, None, sym, ap, subst, ◌∙◌, refl, inl, inr}
 use Rattle.std.specs.Prelude.{◌||◌, Contains, IsSome, nat_eq}
 use Rattle.std.specs.Cmp.Lexicographic.{bytes_decides, pointwise}
 use Rattle.std.specs.FinMap as finite
 use Rattle.std.specs.List.{filter}
-use Rattle.host_calls.specs.Folder.{Files}
+use Rattle.host_calls.specs.Directory.{Files}
 use Rattle.sequence_file.specs.Sequence.{sequence_file}
 use Rattle.whole_file.specs.Temporary.{temporary_file}
 use Rattle.start_journal.specs.declared.mark.Mark.{Mark}
@@ -12,13 +12,13 @@ use Rattle.start_journal.specs.Journals.{journal_file}
 use Rattle.start_journal.specs.Marks.{is_decided}
 use Rattle.std.proofs.lemmas.Bool.{not-true, or_cases}
 use Rattle.start_journal.proofs.MarkLemmas.{or_false, or_true}
-use Rattle.whole_file.specs.Clearing.{AreFiles}
+use Rattle.whole_file.specs.Removal.{AreFiles}
 use Rattle.spool_shows.specs.JobFiles.{counts, counts_as}
 use Rattle.job_name.specs.JobName.{NamedJob, job_named}
 use Rattle.spool_shows.proofs.NameLemmas.{journal_no_job, sequence_no_job}
 use Rattle.spool_shows.proofs.PickedNames.{picked_among, picked_are_files, picked_there}
 use Rattle.step_runs.specs.Current.{IsSpoolName}
-use Rattle.spool_store.specs.inside.Survey.{is_decided_job, is_left_over}
+use Rattle.spool_store.specs.inside.Scan.{is_decided_job, is_left_over}
 use Rattle.spool_store.proofs.KindLemmas.{not_temporary}
 
 -- Which names are left over.
@@ -45,7 +45,7 @@ counting_stays marks name counted = by_named (job_named name) refl counted where
 pub temporary_left : (marks : List Mark) → is_left_over marks temporary_file ≡ true
 temporary_left marks = refl
 
--- so is that of a decided job
+-- so is that of a finished job
 pub decided_left : (marks : List Mark) (name : List ℕ) (job : NamedJob) → job_named name ≡ Some job → is_decided job.number marks ≡ true → is_left_over marks name ≡ true
 decided_left marks name job named decided =
     ap (λ one. pointwise nat_eq name temporary_file || is_decided_job marks one) named
@@ -61,7 +61,7 @@ left_is_spool marks name is = elim (or_cases (pointwise nat_eq name temporary_fi
   is_job None decided = cc
   is_job (Some job) decided = refl
 
--- The names of the files of a folder that are left over.
+-- The names of the files of a directory that are left over.
 
 module _ (marks : List Mark) (files : Files) (names : List (List ℕ)) (are : names ≡ filter (is_left_over marks) (finite.keys files)) where
   -- each is a file, and left over

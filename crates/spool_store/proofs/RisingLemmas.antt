@@ -11,9 +11,9 @@ use Rattle.std.proofs.lemmas.Map.Keys.{sorted_head, sorted_tail}
 use Rattle.spool_model.specs.declared.row.Row.{Row}
 use Rattle.start_journal.specs.declared.mark.Mark.{Mark}
 use Rattle.spool_shows.specs.JobFiles.{JobFile}
-use Rattle.spool_store.specs.inside.JobRows.{AreRowsOf, HaveRows, IsRowInserted, IsRisingSoFar, IsRowOrDamage, IsTaken, RowMap, rows_by_number, surveyed_numbers, row_in_map}
+use Rattle.spool_store.specs.inside.JobRows.{AreRowsOf, HaveRows, IsRowInserted, IsRisingSoFar, IsRowOrDamage, IsTaken, RowMap, rows_by_number, scanned_numbers, row_in_map}
 use Rattle.spool_store.specs.inside.Tables.{AreAscending}
-use Rattle.spool_store.proofs.SurveyLemmas.{equal_self, key_is, rows_have, so_far_all, so_far_more}
+use Rattle.spool_store.proofs.ScanLemmas.{equal_self, key_is, rows_have, so_far_all, so_far_more}
 use Rattle.spool_store.proofs.TableLemmas.{rise_none, rise_with}
 
 -- the numbers of rows
@@ -85,7 +85,7 @@ pushed rows row above below over number =
 
 -- a file with a number above all has one that no file before it has
 pub fresh : (marks : List Mark) (files : List JobFile) (rows : List Row) (above number : ℕ) → AreRowsOf marks files (rows_by_number rows) → AreUpTo above (numbers (rows_by_number rows)) → above < number
-    → IsTaken (surveyed_numbers [] files) number false
+    → IsTaken (scanned_numbers [] files) number false
 fresh marks files rows above number are below over = sym (ap is_some (absent (rows_by_number rows) above number below over)) ∙ rows_have marks files (rows_by_number rows) are number
 
 -- no file yet
@@ -96,9 +96,9 @@ rising_none last marks files rows is = subst (IsRisingSoFar last marks files 0 0
   below = tt;
 })
 
--- one file more
+-- one more file
 pub rising_more : (last : ℕ) (marks : List Mark) (files : List JobFile) (place above : ℕ) (rows new : List Row) (file : JobFile) (row : Row) → place < length files → get_or files place file ≡ file → IsRisingSoFar last marks files place above rows
-    → above < file.job.number → IsRowOrDamage last (surveyed_numbers [] (take place files)) marks file (Ok row) → new ≡ rows ++ row ∷ [] → IsRisingSoFar last marks files (place + 1) row.number new
+    → above < file.job.number → IsRowOrDamage last (scanned_numbers [] (take place files)) marks file (Ok row) → new ≡ rows ++ row ∷ [] → IsRisingSoFar last marks files (place + 1) row.number new
 rising_more last marks files place above rows new file row inside at rising over whole is =
     let over_row : above < row.number = subst (λ n. above < n) (sym (ap (λ (r : Row). r.number) whole.1)) over in
     let made : rows_by_number new ≡ rows_by_number rows ++ (row.number, row) ∷ [] = ap rows_by_number is ∙ map-append (λ (r : Row). (r.number, r)) rows (row ∷ []) in

@@ -3,9 +3,9 @@ use Rattle.std.proofs.Common.{◌≡◌, ◌<◌, ◌^◌, ℕ, Bool, true, fals
 use Rattle.std.specs.Prelude.{Option, Some, None, IfSome, IsSome, MatchBool, option_map}
 use Rattle.std.specs.FinMap as finite
 use Rattle.std.proofs.lemmas.List.{take_all}
-use Rattle.host_calls.specs.Folder.{Files, Folder, reading_of}
+use Rattle.host_calls.specs.Directory.{Files, Directory, reading_of}
 use Rattle.host_calls.specs.World.{bytes_from, size_of}
-use Rattle.host_calls.proofs.FolderLemmas.{reading_is_image}
+use Rattle.host_calls.proofs.DirectoryLemmas.{reading_is_image}
 use Rattle.job_name.specs.JobName.{SpellsJobName, NamedJob, job_named}
 use Rattle.spool_model.specs.declared.entry.Entry.TheVariants.{Live, Done}
 use Rattle.spool_model.specs.declared.fate.Fate.{Fate}
@@ -79,13 +79,13 @@ same_name file name number job new_form named number_is new_form_is without_scri
     one_job_name name file.name given (name_given name job.queue number job.minute new_form spelled) (named ∙ ap Some job_is)
 
 -- where what is kept is current, the file of a live job holds its script
-pub file_holds : (kept : Kept) (folder : Folder) (table : JobTable) (number : ℕ) (name : List ℕ) → IsCurrent kept folder table → IsLiveFileName kept.table kept.old_form number name → HoldsScript table folder number name
-file_holds kept folder table number name current is_file =
-    let shows : ShowsByName (reading_of folder) table = by_name (reading_of folder) table (current.shows (reading_of folder) (reading_is_image folder)) in
+pub file_holds : (kept : Kept) (directory : Directory) (table : JobTable) (number : ℕ) (name : List ℕ) → IsCurrent kept directory table → IsLiveFileName kept.table kept.old_form number name → HoldsScript table directory number name
+file_holds kept directory table number name current is_file =
+    let shows : ShowsByName (reading_of directory) table = by_name (reading_of directory) table (current.shows (reading_of directory) (reading_is_image directory)) in
     let whole : IsWholeOf (entry_at table number) is_file.job is_file.state =
     whole_of (entry_at table number) is_file.job is_file.state (sym (entries_are_without_scripts table number) ∙ ap (λ at. entry_at at number) (sym current.without_scripts_is) ∙ is_file.lives) in
-    let has : HasEntryFile shows.read.marks (reading_of folder) number (Live whole.whole is_file.state) =
-    live_has_file (reading_of folder) table shows number whole.whole is_file.state whole.is in
+    let has : HasEntryFile shows.read.marks (reading_of directory) number (Live whole.whole is_file.state) =
+    live_has_file (reading_of directory) table shows number whole.whole is_file.state whole.is in
     let number_is : has.file.job.number ≡ number = ap (λ (pair : ℕ × JobEntry). pair.0) has.shows in
     let entry_is : Live (job_of has.file) _ ≡ Live whole.whole is_file.state = ap (λ (pair : ℕ × JobEntry). pair.1) has.shows in
     let job_is : job_of has.file ≡ whole.whole = cc in
@@ -94,13 +94,13 @@ file_holds kept folder table number name current is_file =
     let name_is : name ≡ has.file.name = same_name has.file name number is_file.job (is_new_form kept.old_form number) has.is.named number_is new_form_is (ap job_without_script job_is ∙ whole.without_scripts_is) is_file.spelled in
     record {
       bytes = has.file.bytes;
-      held = ap (finite.get (reading_of folder)) name_is ∙ has.is.held;
+      held = ap (finite.get (reading_of directory)) name_is ∙ has.is.held;
       script = record { job = whole.whole; state = is_file.state; lives = whole.is; script = ap (λ (of : Job). of.script) job_is };
     }
 
 -- what was read of that file, as long as it is, is the script
-pub script_read : (table : JobTable) (folder : Folder) (number : ℕ) (name : List ℕ) (count : ℕ) (bytes : List ℕ) → HoldsScript table folder number name → size_of (reading_of folder) name ≡ Some count → bytes_from (reading_of folder) name 0 count ≡ Some bytes → IsScriptOf table number bytes
-script_read table folder number name count bytes holds counted read =
+pub script_read : (table : JobTable) (directory : Directory) (number : ℕ) (name : List ℕ) (count : ℕ) (bytes : List ℕ) → HoldsScript table directory number name → size_of (reading_of directory) name ≡ Some count → bytes_from (reading_of directory) name 0 count ≡ Some bytes → IsScriptOf table number bytes
+script_read table directory number name count bytes holds counted read =
     let long : Some (length holds.bytes) ≡ Some count = sym (ap (option_map length) holds.held) ∙ counted in
     let count_is : length holds.bytes ≡ count = cc in
     let part : Some (take count holds.bytes) ≡ Some bytes = sym (ap (option_map (λ whole. take count (drop 0 whole))) holds.held) ∙ read in
@@ -109,8 +109,8 @@ script_read table folder number name count bytes holds counted read =
     subst (IsScriptOf table number) whole holds.script
 
 -- a name that was found is that of such a file
-pub found_holds : (table : JobTable) (folder : Folder) (number : ℕ) (found : Option (List ℕ)) (name : List ℕ) → found ≡ Some name → IfSome found (HoldsScript table folder number) → HoldsScript table folder number name
-found_holds table folder number found name is holds = subst (λ given. IfSome given (HoldsScript table folder number)) is holds
+pub found_holds : (table : JobTable) (directory : Directory) (number : ℕ) (found : Option (List ℕ)) (name : List ℕ) → found ≡ Some name → IfSome found (HoldsScript table directory number) → HoldsScript table directory number name
+found_holds table directory number found name is holds = subst (λ given. IfSome given (HoldsScript table directory number)) is holds
 
-pub file_is_there : (table : JobTable) (folder : Folder) (number : ℕ) (name : List ℕ) → HoldsScript table folder number name → IsSome (finite.get (reading_of folder) name)
-file_is_there table folder number name holds = subst IsSome (sym holds.held) refl
+pub file_is_there : (table : JobTable) (directory : Directory) (number : ℕ) (name : List ℕ) → HoldsScript table directory number name → IsSome (finite.get (reading_of directory) name)
+file_is_there table directory number name holds = subst IsSome (sym holds.held) refl

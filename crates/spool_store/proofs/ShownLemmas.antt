@@ -1,10 +1,10 @@
--- A survey finds what the folder shows.
+-- A scan finds what the directory shows.
 use Rattle.std.proofs.Common.{◌≡◌, ℕ, List, Option, Some, map, sym, ap, subst, ◌∙◌, refl}
 use Rattle.std.specs.Prelude.{Result, Ok, Err, IsErrAnd}
 use Rattle.std.specs.FinMap as finite
 use Rattle.std.specs.FinMap.{entries, get-entries}
 use Rattle.host_calls.specs.declared.damage.Damage.{Damage}
-use Rattle.host_calls.specs.Folder.{Files}
+use Rattle.host_calls.specs.Directory.{Files}
 use Rattle.sequence_file.specs.declared.fault.SequenceFault.{SequenceFault}
 use Rattle.sequence_file.specs.declared.fault.SequenceFault.TheVariants as sequence
 use Rattle.sequence_file.specs.Sequence.{sequence_file}
@@ -18,16 +18,16 @@ use Rattle.sequence_file.specs.LastNumber.{last_in}
 use Rattle.spool_shows.specs.Shown.{damage_of_jobs, shown_after_journal, shown_after_last, shown_by, shown_by_files, table_or_damage, table_shown}
 use Rattle.host_calls.specs.declared.store_fault.StoreFault.{StoreFault}
 use Rattle.host_calls.specs.declared.store_fault.StoreFault.TheVariants.{Damaged}
-use Rattle.spool_store.specs.declared.surveyed_files.SurveyedFiles.{SurveyedFiles}
-use Rattle.spool_store.specs.declared.folder_scan.RecoveryScan.{RecoveryScan}
-use Rattle.spool_store.specs.declared.surveyed_job.SurveyedJob.{SurveyedJob}
+use Rattle.spool_store.specs.declared.scanned_files.ScannedFiles.{ScannedFiles}
+use Rattle.spool_store.specs.declared.directory_scan.RecoveryScan.{RecoveryScan}
+use Rattle.spool_store.specs.declared.scanned_job.ScannedJob.{ScannedJob}
 use Rattle.host_calls.specs.Damages.{IfDamaged}
 use Rattle.host_calls.specs.StoreFaults.{IsFound}
 use Rattle.sequence_file.specs.Faults.{fault_of_sequence}
 use Rattle.start_journal.specs.JournalFaults.{fault_of_journal}
 use Rattle.std.specs.List.{filter}
-use Rattle.spool_store.specs.inside.Survey.{AreSurveyedFiles, IsSurvey, is_left_over}
-use Rattle.spool_store.specs.inside.SurveyedJobs.{files_surveyed, old_form_numbers}
+use Rattle.spool_store.specs.inside.Scan.{AreScannedFiles, IsScan, is_left_over}
+use Rattle.spool_store.specs.inside.ScannedJobs.{files_scanned, old_form_numbers}
 use Rattle.spool_store.specs.inside.Tables.{IsTableShown}
 use Rattle.spool_store.proofs.RecoveryForms.{old_form_same}
 use Rattle.spool_shows.proofs.CutFiles.{cut, files_cut}
@@ -74,26 +74,26 @@ shown_at files last is =
 pub journal_damage : (files : Files) (last : ℕ) (damage : Damage) → last_in (finite.get files sequence_file) ≡ Ok last → journal_in last (finite.get files journal_file) ≡ Err damage → shown_by files ≡ Err damage
 journal_damage files last damage number is = shown_at files last number ∙ ap (λ read. shown_after_journal last read (entries files)) is
 
-module _ (files : Files) (last : ℕ) (journal : JournalRead) (surveyed_files : SurveyedFiles) (marks : List Mark) (slice : List SurveyedJob) (number : last_in (finite.get files sequence_file) ≡ Ok last) (read : journal_in last (finite.get files journal_file) ≡ Ok journal) (are : AreSurveyedFiles journal.marks (entries files) surveyed_files) (marks_is : marks ≡ journal.marks) (slice_is : slice ≡ surveyed_files.surveyed.items) where
+module _ (files : Files) (last : ℕ) (journal : JournalRead) (scanned_files : ScannedFiles) (marks : List Mark) (slice : List ScannedJob) (number : last_in (finite.get files sequence_file) ≡ Ok last) (read : journal_in last (finite.get files journal_file) ≡ Ok journal) (are : AreScannedFiles journal.marks (entries files) scanned_files) (marks_is : marks ≡ journal.marks) (slice_is : slice ≡ scanned_files.scanned.items) where
   shown_of : shown_by files ≡ shown_by_files last journal.marks (job_files journal.marks (entries files))
   shown_of = shown_at files last number ∙ ap (λ one. shown_after_journal last one (entries files)) read
 
-  surveyed_is : files_surveyed slice ≡ map cut (job_files journal.marks (entries files))
-  surveyed_is = ap files_surveyed slice_is ∙ are.surveyed ∙ files_cut journal.marks (entries files)
+  scanned_is : files_scanned slice ≡ map cut (job_files journal.marks (entries files))
+  scanned_is = ap files_scanned slice_is ∙ are.scanned ∙ files_cut journal.marks (entries files)
 
-  damage_is : damage_of_jobs last marks (files_surveyed slice) ≡ damage_of_jobs last journal.marks (job_files journal.marks (entries files))
-  damage_is = (λ i. damage_of_jobs last (marks_is i) (surveyed_is i)) ∙ damage_of_jobs_same last journal.marks (job_files journal.marks (entries files))
+  damage_is : damage_of_jobs last marks (files_scanned slice) ≡ damage_of_jobs last journal.marks (job_files journal.marks (entries files))
+  damage_is = (λ i. damage_of_jobs last (marks_is i) (scanned_is i)) ∙ damage_of_jobs_same last journal.marks (job_files journal.marks (entries files))
 
-  pub jobs_damage : (damage : Damage) → damage_of_jobs last marks (files_surveyed slice) ≡ Some damage → shown_by files ≡ Err damage
+  pub jobs_damage : (damage : Damage) → damage_of_jobs last marks (files_scanned slice) ≡ Some damage → shown_by files ≡ Err damage
   jobs_damage damage is = shown_of ∙ ap (table_or_damage last journal.marks (job_files journal.marks (entries files))) (sym damage_is ∙ is)
 
-  pub is_survey : (survey : RecoveryScan) → survey.journal ≡ journal → survey.old_form.items ≡ old_form_numbers (files_surveyed slice) → survey.leftover.items ≡ surveyed_files.leftover.items → IsTableShown last marks (files_surveyed slice) survey.jobs → IsSurvey files survey
-  is_survey survey journal_same old_form left shown = record {
+  pub is_scan : (scan : RecoveryScan) → scan.journal ≡ journal → scan.old_form.items ≡ old_form_numbers (files_scanned slice) → scan.leftover.items ≡ scanned_files.leftover.items → IsTableShown last marks (files_scanned slice) scan.jobs → IsScan files scan
+  is_scan scan journal_same old_form left shown = record {
     table = table_shown last journal.marks (job_files journal.marks (entries files));
     shows = shown_of ∙ ap (table_or_damage last journal.marks (job_files journal.marks (entries files))) (sym damage_is ∙ shown.0);
-    jobs = shown.1 ∙ (λ i. without_scripts (table_shown last (marks_is i) (surveyed_is i))) ∙ table_same last journal.marks (job_files journal.marks (entries files));
+    jobs = shown.1 ∙ (λ i. without_scripts (table_shown last (marks_is i) (scanned_is i))) ∙ table_same last journal.marks (job_files journal.marks (entries files));
     journal = read ∙ ap Ok (sym journal_same);
-    old_form = old_form ∙ ap old_form_numbers surveyed_is ∙ old_form_same cut (λ file. refl) (job_files journal.marks (entries files))
+    old_form = old_form ∙ ap old_form_numbers scanned_is ∙ old_form_same cut (λ file. refl) (job_files journal.marks (entries files))
         ∙ ap (λ (one : JournalRead). old_form_numbers (job_files one.marks (entries files))) (sym journal_same);
     leftover = left ∙ are.leftover ∙ ap (λ (one : JournalRead). filter (is_left_over one.marks) (finite.keys files)) (sym journal_same);
   }

@@ -24,7 +24,7 @@ use Rattle.spool_store.specs.Rows.{row_entry}
 use Rattle.spool_store.specs.inside.JobRows.{ListsRows, rows_by_number, row_of}
 use Rattle.spool_store.proofs.TableLemmas.{find_rows, rows_keyed, unnumbered}
 
--- what is kept of a number tells whether it is decided
+-- what is kept of a number tells whether it is finished
 pub life_decides : (marks : List Mark) (lives : Lifecycles) (number : ℕ) (life : Lifecycle) (test : Bool) → TellLifecycles marks lives → life ≡ lifecycle_in lives number → is_some life.fate ≡ test → is_decided number marks ≡ test
 life_decides marks lives number life test tells is fated =
     decided_has_fate number marks ∙ ap (λ (l : Lifecycle). is_some l.fate) (sym (is ∙ tells.1 number)) ∙ fated

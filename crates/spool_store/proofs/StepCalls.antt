@@ -2,7 +2,7 @@
 use Rattle.std.proofs.Common.{◌≡◌, ℕ, Bool, true, false, List, [], ◌∷◌, sym, ap, subst, ◌∙◌, refl, inl, inr, Result, Ok, Err}
 use Rattle.std.specs.Prelude.{Option, Some, None, IfErr, IfSome, IsErr, option_map}
 use Rattle.host_calls.specs.declared.fault.HostFault.{HostFault}
-use Rattle.host_calls.specs.Folder.{Folder, reading_of}
+use Rattle.host_calls.specs.Directory.{Directory, reading_of}
 use Rattle.host_calls.specs.Session.{CallsInside, Session}
 use Rattle.host_calls.specs.World.{World}
 use Rattle.job_name.specs.JobName.{SpellsJobName}
@@ -15,7 +15,7 @@ use Rattle.spool_model.specs.JobTable.{JobEntry, JobState, JobTable, entry_at}
 use Rattle.spool_model.specs.Steps.{IsLegal, after_step}
 use Rattle.start_journal.specs.declared.mark.Mark.{Mark}
 use Rattle.start_journal.specs.declared.mark.Mark.TheVariants.{Started}
-use Rattle.start_journal.specs.Changing.{added}
+use Rattle.start_journal.specs.JournalChange.{added}
 use Rattle.start_journal.specs.Journals.{JournalRead}
 use Rattle.start_journal.specs.Marks.{AreLegalMarks, decides}
 use Rattle.whole_file.specs.Others.{ChangesFiles}
@@ -27,9 +27,9 @@ use Rattle.spool_shows.specs.Laws.{AddsMark}
 use Rattle.host_calls.specs.declared.store_fault.StoreFault.{StoreFault}
 use Rattle.host_calls.specs.declared.store_fault.StoreFault.TheVariants.{FileFault}
 use Rattle.host_calls.specs.StoreFaults.{IsOfStep}
-use Rattle.spool_store.specs.inside.Marking.{HaveOneMore, IsDecisionOf, IsMarkOf, IsMarkDurable, KeepsFiles, kept_with}
+use Rattle.spool_store.specs.inside.JournalMark.{HaveOneMore, IsDecisionOf, IsMarkOf, IsMarkDurable, KeepsFiles, kept_with}
 use Rattle.spool_store.specs.Scripts.{IsLiveFileName}
-use Rattle.spool_store.specs.Stepping.{HasItsMark, MakesStep, with_room}
+use Rattle.spool_store.specs.OneStep.{HasItsMark, MakesStep, with_room}
 use Rattle.spool_store.specs.Stored.{IsStored}
 use Rattle.spool_store.proofs.DecideLemmas.{decided_before_or_by_it, one_more, still_drawn}
 use Rattle.spool_store.proofs.MarkingCalls.{journal_is_spool}
@@ -77,62 +77,62 @@ adds_on table _ mark adds = adds
 -- A step of a store.
 
 -- The store is seen so, and the step, which has no script, is legal on it and adds the mark.
-pub record IsStepOf (inside surveyed : Kept) (step : Step) (mark : Mark) : Type 0 where
-  pub view : inside ≡ surveyed
-  pub legal : IsLegal surveyed.table step
+pub record IsStepOf (inside scanned : Kept) (step : Step) (mark : Mark) : Type 0 where
+  pub view : inside ≡ scanned
+  pub legal : IsLegal scanned.table step
   pub adds : AddsMark inside.table step mark
   pub without_scripts : step_without_script step ≡ step
 
 -- what is known of what is seen is known of what is kept
-pub legal_inside : (inside surveyed : Kept) (step : Step) → inside ≡ surveyed → IsLegal surveyed.table step → IsLegal inside.table step
-legal_inside inside surveyed step view legal = subst (λ (kept : Kept). IsLegal kept.table step) (sym view) legal
+pub legal_inside : (inside scanned : Kept) (step : Step) → inside ≡ scanned → IsLegal scanned.table step → IsLegal inside.table step
+legal_inside inside scanned step view legal = subst (λ (kept : Kept). IsLegal kept.table step) (sym view) legal
 
 -- and so it is current
-current_inside : (inside surveyed : Kept) (folder : Folder) (table : JobTable) → inside ≡ surveyed → IsCurrent surveyed folder table → IsCurrent inside folder table
-current_inside inside surveyed folder table view current = subst (λ (kept : Kept). IsCurrent kept folder table) (sym view) current
+current_inside : (inside scanned : Kept) (directory : Directory) (table : JobTable) → inside ≡ scanned → IsCurrent scanned directory table → IsCurrent inside directory table
+current_inside inside scanned directory table view current = subst (λ (kept : Kept). IsCurrent kept directory table) (sym view) current
 
 -- it is a step on the table too
-pub mark_of_step : (inside surveyed : Kept) (folder : Folder) (table : JobTable) (step : Step) (mark : Mark) → IsStepOf inside surveyed step mark → IsCurrent surveyed folder table → IsMarkOf inside.old_form inside.journal folder table step mark
-mark_of_step inside surveyed folder table step mark of current =
-    let now : IsCurrent inside folder table = current_inside inside surveyed folder table of.view current in
+pub mark_of_step : (inside scanned : Kept) (directory : Directory) (table : JobTable) (step : Step) (mark : Mark) → IsStepOf inside scanned step mark → IsCurrent scanned directory table → IsMarkOf inside.old_form inside.journal directory table step mark
+mark_of_step inside scanned directory table step mark of current =
+    let now : IsCurrent inside directory table = current_inside inside scanned directory table of.view current in
     record {
       current = record { shows = now.shows; without_scripts_is = refl; journal = now.journal; sequence = now.sequence; decided = now.decided; forms = now.forms };
       legal = (legal_as_on_the_table table step).0
-          (subst (IsLegal (without_scripts table)) (sym of.without_scripts) (subst (λ t. IsLegal t step) now.without_scripts_is (legal_inside inside surveyed step of.view of.legal)));
+          (subst (IsLegal (without_scripts table)) (sym of.without_scripts) (subst (λ t. IsLegal t step) now.without_scripts_is (legal_inside inside scanned step of.view of.legal)));
       adds = adds_on table step mark (subst (λ t. AddsMark t step mark) now.without_scripts_is of.adds);
     }
 
--- what holds of a value that may be missing holds of the one that is there
+-- what holds of a value that may be missing holds of the one that exists
 pub of_some : {X : Type 0} (P : X → Type 0) (found : Option X) (value : X) → found ≡ Some value → IfSome found P → P value
 of_some P found value is holds = subst (λ some. IfSome some P) is holds
 
 -- The step decides the live job whose file has the name.
-pub record IsDecidingStep (inside surveyed : Kept) (step : Step) (mark : Mark) (name : List ℕ) : Type 0 where
-  pub step_of : IsStepOf inside surveyed step mark
+pub record IsDecidingStep (inside scanned : Kept) (step : Step) (mark : Mark) (name : List ℕ) : Type 0 where
+  pub step_of : IsStepOf inside scanned step mark
   pub number : ℕ
   pub decided : decides number mark ≡ true
-  pub file : IsLiveFileName surveyed.table surveyed.old_form number name
+  pub file : IsLiveFileName scanned.table scanned.old_form number name
 
 -- it is a decision on the table too
-pub decision_of_step : (inside surveyed : Kept) (folder : Folder) (table : JobTable) (step : Step) (mark : Mark) (name : List ℕ) → IsDecidingStep inside surveyed step mark name → IsCurrent surveyed folder table → IsDecisionOf inside.old_form inside.journal folder table step mark name
-decision_of_step inside surveyed folder table step mark name of current = record {
-  is_mark = mark_of_step inside surveyed folder table step mark of.step_of current;
+pub decision_of_step : (inside scanned : Kept) (directory : Directory) (table : JobTable) (step : Step) (mark : Mark) (name : List ℕ) → IsDecidingStep inside scanned step mark name → IsCurrent scanned directory table → IsDecisionOf inside.old_form inside.journal directory table step mark name
+decision_of_step inside scanned directory table step mark name of current = record {
+  is_mark = mark_of_step inside scanned directory table step mark of.step_of current;
   number = of.number;
   decided = of.decided;
   file = file_on table inside.old_form of.number name
       (subst (λ (kept : Kept). IsLiveFileName (without_scripts table) kept.old_form of.number name) (sym of.step_of.view)
-      (subst (λ t. IsLiveFileName t surveyed.old_form of.number name) current.without_scripts_is of.file));
+      (subst (λ t. IsLiveFileName t scanned.old_form of.number name) current.without_scripts_is of.file));
 }
 
 -- what is kept then is as it should be
-pub stored_step : (inside surveyed : Kept) (jobs : JobTable) (new : JournalRead) (step : Step) (mark : Mark) → IsStepOf inside surveyed step mark → IsStored inside → AreLegalMarks inside.journal.marks → IsStartInRange step → new ≡ added (with_room inside.journal) mark → jobs ≡ after_step inside.table step → IsStored (record { table = jobs; journal = new; old_form = inside.old_form })
-stored_step inside surveyed jobs new step mark of is legal range made after =
+pub stored_step : (inside scanned : Kept) (jobs : JobTable) (new : JournalRead) (step : Step) (mark : Mark) → IsStepOf inside scanned step mark → IsStored inside → AreLegalMarks inside.journal.marks → IsStartInRange step → new ≡ added (with_room inside.journal) mark → jobs ≡ after_step inside.table step → IsStored (record { table = jobs; journal = new; old_form = inside.old_form })
+stored_step inside scanned jobs new step mark of is legal range made after =
     subst (λ table. IsStored (record { table = table; journal = new; old_form = inside.old_form })) (sym after)
-    (stored_with inside new step mark is legal (legal_inside inside surveyed step of.view of.legal) of.adds range (one_more inside.journal new mark made))
+    (stored_with inside new step mark is legal (legal_inside inside scanned step of.view of.legal) of.adds range (one_more inside.journal new mark made))
 
 -- and the journal has the step's mark, compacted before where it needs room
-pub has_its_mark : (inside surveyed : Kept) (jobs : JobTable) (new : JournalRead) (step : Step) (mark : Mark) → IsStepOf inside surveyed step mark → new ≡ added (with_room inside.journal) mark → HasItsMark surveyed step (record { table = jobs; journal = new; old_form = inside.old_form })
-has_its_mark inside surveyed jobs new step mark of made =
+pub has_its_mark : (inside scanned : Kept) (jobs : JobTable) (new : JournalRead) (step : Step) (mark : Mark) → IsStepOf inside scanned step mark → new ≡ added (with_room inside.journal) mark → HasItsMark scanned step (record { table = jobs; journal = new; old_form = inside.old_form })
+has_its_mark inside scanned jobs new step mark of made =
     subst (λ (kept : Kept). HasItsMark kept step (record { table = jobs; journal = new; old_form = inside.old_form })) of.view
     (record { mark = mark; adds = of.adds; journal = made })
 
@@ -140,22 +140,22 @@ has_its_mark inside surveyed jobs new step mark of made =
 
 -- a call that failed
 pub failed_step : (tells : Bool) (before after : Session) (old new : World) (kept : Kept) (step : Step) (result : Result Kept StoreFault) → IsErr result → CallsInside FileFault before after result → IfErr result IsOfStep →
-    (tells ≡ true → (table : JobTable) → IsCurrent kept old.now.folder table → ChangesFiles (IsSteppingOn table (step ∷ []) old.now.folder) old new) → MakesStep tells before after old new kept step result
+    (tells ≡ true → (table : JobTable) → IsCurrent kept old.now.directory table → ChangesFiles (IsSteppingOn table (step ∷ []) old.now.directory) old new) → MakesStep tells before after old new kept step result
 failed_step tells before after old new kept step (Ok stored) failed inside faults files = cc
 failed_step tells before after old new kept step (Err fault) failed inside faults files =
     record { inside = inside; faults = faults; table_is = tt; marked = tt; files = λ is table current. record { files = files is table current; current = tt; others = tt } }
 
 -- The step was made, also of what is kept, which was current.
-pub record IsMade (inside surveyed : Kept) (jobs : JobTable) (table : JobTable) (step : Step) (mark : Mark) (before : World) : Type 0 where
-  pub step_of : IsStepOf inside surveyed step mark
+pub record IsMade (inside scanned : Kept) (jobs : JobTable) (table : JobTable) (step : Step) (mark : Mark) (before : World) : Type 0 where
+  pub step_of : IsStepOf inside scanned step mark
   pub kept : jobs ≡ after_step inside.table step
-  pub current : IsCurrent surveyed before.now.folder table
+  pub current : IsCurrent scanned before.now.directory table
 
-module _ (inside surveyed : Kept) (jobs : JobTable) (new : JournalRead) (table : JobTable) (step : Step) (mark : Mark) (before after : World) (made : IsMade inside surveyed jobs table step mark before) where
+module _ (inside scanned : Kept) (jobs : JobTable) (new : JournalRead) (table : JobTable) (step : Step) (mark : Mark) (before after : World) (made : IsMade inside scanned jobs table step mark before) where
   -- the table that is kept is the one after the step, without scripts
   without_scripts_after : jobs ≡ without_scripts (after_step table step)
   without_scripts_after =
-      made.kept ∙ ap (λ t. after_step t step) (current_inside inside surveyed before.now.folder table made.step_of.view made.current).without_scripts_is
+      made.kept ∙ ap (λ t. after_step t step) (current_inside inside scanned before.now.directory table made.step_of.view made.current).without_scripts_is
       ∙ ap (after_step (without_scripts table)) (sym made.step_of.without_scripts) ∙ sym (steps_as_on_the_table table step)
 
   -- a call whose journal is current after the step
@@ -167,28 +167,28 @@ module _ (inside surveyed : Kept) (jobs : JobTable) (new : JournalRead) (table :
   }
 
   -- names that have the forms that are kept have them after the step
-  forms_on : HaveForms inside.old_form table.last (reading_of after.now.folder) → HaveForms inside.old_form (after_step table step).last (reading_of after.now.folder)
+  forms_on : HaveForms inside.old_form table.last (reading_of after.now.directory) → HaveForms inside.old_form (after_step table step).last (reading_of after.now.directory)
   forms_on forms = record { each = forms.each; drawn = λ number is. still_drawn table step number (forms.drawn number is) }
 
-  -- a mark that decides nothing leaves no file of a decided number
-  marked_current : AreLegalMarks inside.journal.marks → HaveOneMore inside.journal.marks mark new.marks → ((number : ℕ) → decides number mark ≡ false) → IsMarkDurable inside.journal.marks new after.now.folder (after_step table step) → KeepsFiles before.now.folder after.now.folder → IsCurrent (kept_with inside.old_form new (after_step table step)) after.now.folder (after_step table step)
-  marked_current legal more silent marked keeps = record {
+  -- a mark that decides nothing leaves no file of a finished number
+  marked_current : AreLegalMarks inside.journal.marks → HaveOneMore inside.journal.marks mark new.marks → ((number : ℕ) → decides number mark ≡ false) → IsMarkDurable inside.journal.marks new after.now.directory (after_step table step) → KeepsFiles before.now.directory after.now.directory → IsCurrent (kept_with inside.old_form new (after_step table step)) after.now.directory (after_step table step)
+  marked_current legal more unchecked marked keeps = record {
     shows = marked.shows;
     without_scripts_is = refl;
     journal = marked.holds;
     sequence = marked.sequence;
     decided = λ name job named decided. elim (decided_before_or_by_it inside.journal.marks new.marks mark job.number legal more decided) [
       | inl old ↦ marked.decided name job named old
-      | inr now ↦ let impossible : true ≡ false = sym now ∙ silent job.number in cc
+      | inr now ↦ let impossible : true ≡ false = sym now ∙ unchecked job.number in cc
     ];
-    forms = forms_on (forms_still inside.old_form table.last before.now.folder after.now.folder keeps
-        (current_inside inside surveyed before.now.folder table made.step_of.view made.current).forms);
+    forms = forms_on (forms_still inside.old_form table.last before.now.directory after.now.directory keeps
+        (current_inside inside scanned before.now.directory table made.step_of.view made.current).forms);
   }
 
   -- so a call of such a mark is current after it too
-  pub marked_call : AreLegalMarks inside.journal.marks → new ≡ added (with_room inside.journal) mark → ((number : ℕ) → decides number mark ≡ false) → ChangesFiles (IsSteppingOn table (step ∷ []) before.now.folder) before after → IsMarkDurable inside.journal.marks new after.now.folder (after_step table step) → KeepsFiles before.now.folder after.now.folder → StoreCall {E = StoreFault} table (step ∷ []) before after (Ok (record { table = jobs; journal = new; old_form = inside.old_form }))
-  marked_call legal made silent files marked keeps = current_call (record {
+  pub marked_call : AreLegalMarks inside.journal.marks → new ≡ added (with_room inside.journal) mark → ((number : ℕ) → decides number mark ≡ false) → ChangesFiles (IsSteppingOn table (step ∷ []) before.now.directory) before after → IsMarkDurable inside.journal.marks new after.now.directory (after_step table step) → KeepsFiles before.now.directory after.now.directory → StoreCall {E = StoreFault} table (step ∷ []) before after (Ok (record { table = jobs; journal = new; old_form = inside.old_form }))
+  marked_call legal made unchecked files marked keeps = current_call (record {
     files = files;
-    current = marked_current legal (one_more inside.journal new mark made) silent marked keeps;
+    current = marked_current legal (one_more inside.journal new mark made) unchecked marked keeps;
     others = λ name other. keeps name (λ either. other (journal_is_spool name either));
   })

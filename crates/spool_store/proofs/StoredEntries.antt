@@ -1,4 +1,4 @@
--- What marks tell of an entry is told by what a compaction keeps of them, and by one mark more of another number.
+-- What marks tell of an entry is told by what a compaction keeps of them, and by one more mark of another number.
 use Rattle.std.proofs.Common.{◌≡◌, ℕ, Bool, false, not, List, [], ◌∷◌, ◌++◌, ap, ◌∙◌}
 use Rattle.std.specs.Prelude.{◌&&◌, Option, Some, None}
 use Rattle.std.specs.List.{list_any}

@@ -16,10 +16,10 @@ use Rattle.spool_model.proofs.StepLemmas.{step_keeps_sound}
 use Rattle.spool_model.proofs.TableLemmas.{get-put_other, get-put_same, get-taken_other, get-taken_same}
 use Rattle.start_journal.specs.declared.mark.Mark.{Mark}
 use Rattle.start_journal.specs.declared.mark.Mark.TheVariants as mark
-use Rattle.start_journal.specs.Changing.{compacted}
+use Rattle.start_journal.specs.JournalChange.{compacted}
 use Rattle.start_journal.specs.Journals.{JournalRead, are_drawn, is_drawn}
 use Rattle.start_journal.specs.Marks.{AreLegalMarks, IsLegalAfter, decides, is_end_of, is_forgetting, is_decided, is_ended, has_start_of, kept_marks, is_mark_of, is_start_of}
-use Rattle.clock_range.specs.ClockRange.{IsClockSecond}
+use Rattle.host_calls.specs.ClockRange.{IsClockSecond}
 use Rattle.std.proofs.lemmas.Bool.{and_from, and_parts, not-true}
 use Rattle.start_journal.proofs.LifeLemmas.{any_with, any_without, ends_decides, none_narrower}
 use Rattle.start_journal.proofs.MarkLemmas.{decides_names, kept_marks_are_legal}
@@ -28,8 +28,8 @@ use Rattle.step_runs.specs.Current.{Kept}
 use Rattle.spool_shows.specs.Laws.{AddsMark}
 use Rattle.spool_shows.proofs.MarkTests.{not_forgotten}
 use Rattle.spool_shows.proofs.ShownEntries.{fails_other, passes_same}
-use Rattle.spool_shows.specs.Deciding.{decision, decision_mark}
-use Rattle.spool_store.specs.inside.Marking.{HaveOneMore}
+use Rattle.spool_shows.specs.FateSteps.{decision, decision_mark}
+use Rattle.spool_store.specs.inside.JournalMark.{HaveOneMore}
 use Rattle.spool_store.specs.Listed.{IsLive}
 use Rattle.spool_store.specs.Stored.{IsEntryBy, IsLiveBy, IsStateBy, IsStored}
 use Rattle.spool_store.proofs.KeptMarks.{kept_drawn}
@@ -43,7 +43,7 @@ kept_then kept table journal = record { table = table; journal = journal; old_fo
 -- The mark names the number of the step alone, and with it the marks tell of the number's new entry. All other
 -- entries stay, and the second of the last batch start is in the clock's range.
 record IsStepAt (table : JobTable) (marks : List Mark) (step : Step) (mark : Mark) (number : ℕ) : Type 0 where
-  silent : (other : ℕ) → ¬ (other ≡ number) → is_mark_of other mark ≡ false
+  unchecked : (other : ℕ) → ¬ (other ≡ number) → is_mark_of other mark ≡ false
   kept : (other : ℕ) → ¬ (other ≡ number) → entry_at (after_step table step) other ≡ entry_at table other
   here : IsEntryBy (marks ++ mark ∷ []) number (entry_at (after_step table step) number)
   drawn : is_drawn table.last mark ≡ true
@@ -55,7 +55,7 @@ abbrev pub IsStartInRange : Step → Type 0
 IsStartInRange (Start number second) = IsClockSecond second
 IsStartInRange _ = Unit {0}
 
--- Whatever its fate, a job lives that is decided, and the mark names and decides its number alone.
+-- Whatever its fate, a job lives that is finished, and the mark names and decides its number alone.
 pub record DecidesBy (table : JobTable) (number : ℕ) (fate : Fate) (step : Step) (mark : Mark) : Type 0 where
   pub lives : IsLegal table step → IsLive table number
   pub adds : AddsMark table step mark
@@ -120,7 +120,7 @@ module _ (kept : Kept) (is : IsStored kept) where
     entries = λ other. subst (λ list. IsEntryBy list other (entry_at (after_step table step) other)) (sym more) (elim (eqb_tells other number) [
       | inl same ↦ subst (λ n. IsEntryBy (marks ++ mark ∷ []) n (entry_at (after_step table step) n)) (sym same.1) at.here
       | inr apart ↦ subst (IsEntryBy (marks ++ mark ∷ []) other) (sym (at.kept other apart.1))
-          (entry_alike marks (marks ++ mark ∷ []) other (entry_at table other) (other_alike marks mark other (at.silent other apart.1)) (is.entries other))
+          (entry_alike marks (marks ++ mark ∷ []) other (entry_at table other) (other_alike marks mark other (at.unchecked other apart.1)) (is.entries other))
     ]);
     batch = at.batch;
     old_form = is.old_form;
@@ -132,7 +132,7 @@ module _ (kept : Kept) (is : IsStored kept) where
       let by : DecidesBy table number fate (decision number fate) (decision_mark number fate) = decides_by table number fate in
       let live : IsLive table number = by.lives may in
       record {
-        silent = λ other differ. by.named other ∙ silent_other number other differ;
+        unchecked = λ other differ. by.named other ∙ silent_other number other differ;
         kept = λ other differ. ap (λ t. entry_at t other) by.after ∙ get-put_other table.entries number other (Done fate) differ;
         here = subst (IsEntryBy (marks ++ decision_mark number fate ∷ []) number) (sym (ap (λ t. entry_at t number) by.after ∙ get-put_same table.entries number (Done fate)))
             (and_from _ _ (any_with (decides number) marks (decision_mark number fate) by.decided)
@@ -145,7 +145,7 @@ module _ (kept : Kept) (is : IsStored kept) where
   -- a step that forgets a number
   forgotten_at : (number : ℕ) (fate : Fate) → entry_at table number ≡ Some (Done fate) → IsStepAt table marks (Forget number) (mark.Forgotten number) number
   forgotten_at number fate held = record {
-    silent = silent_other number;
+    unchecked = silent_other number;
     kept = λ other differ. get-taken_other table.entries number other differ;
     here = subst (IsEntryBy (marks ++ mark.Forgotten number ∷ []) number) (sym (get-taken_same table.entries number)) tt;
     drawn = number_drawn number (Done fate) held;
@@ -168,7 +168,7 @@ module _ (kept : Kept) (is : IsStored kept) where
         state_by = and_from _ _ (any_with (is_start_of number) marks added (passes_same number number refl)) (ap not undecided);
       } in
       record {
-        silent = silent_other number;
+        unchecked = silent_other number;
         kept = λ other differ. ap (λ list. map.get list other) entries ∙ get-put_other table.entries number other (Live job (Running second)) differ;
         here = subst (IsEntryBy (marks ++ added ∷ []) number)
             (sym (ap (λ list. map.get list number) entries ∙ get-put_same table.entries number (Live job (Running second)))) new;
@@ -198,7 +198,7 @@ module _ (kept : Kept) (is : IsStored kept) where
       subst (StepsAtNumber (Forget number)) (sym adds) (number, forgotten_at number of held)
   step_at _ added legal may adds range = absurd adds
 
-  -- what is kept with one mark more is as it should be
+  -- what is kept with one more mark is as it should be
   stored_more : (new : JournalRead) (step : Step) (mark : Mark) → new.marks ≡ marks ++ mark ∷ [] → AreLegalMarks marks → IsLegal table step → AddsMark table step mark → IsStartInRange step → IsStored (kept_then kept (after_step table step) new)
   stored_more new step mark more legal may adds range =
       let at : StepsAtNumber step mark = step_at step mark legal may adds range in
@@ -214,7 +214,7 @@ module _ (kept : Kept) (is : IsStored kept) where
     old_form = is.old_form;
   }
 
--- so it is as it should be with one mark more, compacted before or not
+-- so it is as it should be with one more mark, compacted before or not
 pub stored_with : (kept : Kept) (new : JournalRead) (step : Step) (mark : Mark) → IsStored kept → AreLegalMarks kept.journal.marks → IsLegal kept.table step → AddsMark kept.table step mark → IsStartInRange step → HaveOneMore kept.journal.marks mark new.marks → IsStored (record { table = after_step kept.table step; journal = new; old_form = kept.old_form })
 stored_with kept new step mark is legal may adds range (inl more) = stored_more kept is new step mark more legal may adds range
 stored_with kept new step mark is legal may adds range (inr more) =

@@ -3,7 +3,7 @@ use Rattle.std.proofs.Common.{◌≡◌, ◌<◌, ◌≤◌, ◌+◌, ℕ, Bool,
 use Rattle.std.specs.Prelude.{Option, Some, None, IsSome, MatchOption, Result, Ok, Err}
 use Rattle.std.specs.Result.{IsErr}
 use Rattle.host_calls.specs.declared.fault.HostFault.{HostFault}
-use Rattle.host_calls.specs.Folder.{Folder}
+use Rattle.host_calls.specs.Directory.{Directory}
 use Rattle.host_calls.specs.World.{World}
 use Rattle.job_script.specs.declared.headers.JobHeader.{JobHeader}
 use Rattle.job_script.specs.Header.{HasHeader, IsHeaderOf}
@@ -24,11 +24,11 @@ use Rattle.step_runs.specs.Current.{IsCurrent, Kept}
 use Rattle.host_calls.specs.declared.store_fault.StoreFault.{StoreFault}
 use Rattle.spool_store.specs.Listed.{ListsLive}
 use Rattle.spool_store.specs.Stored.{IsStored}
-use Rattle.spool_store.specs.Submitting.{IsFull, IsNextNumber, IsNextOn, IsUsedUp, job_of_script, kept_after_submission, with_job}
+use Rattle.spool_store.specs.Submission.{IsFull, IsNextNumber, IsNextOn, IsUsedUp, job_of_script, kept_after_submission, with_job}
 use Rattle.spool_model.specs.Lists.{live_count}
 use Rattle.spool_store.proofs.CountLemmas.{rows_counted}
-use Rattle.spool_store.proofs.SurveyedJobLemmas.{user_read}
-use Rattle.spool_store.proofs.SubmittedFolders.{last_without_scripts}
+use Rattle.spool_store.proofs.ScannedJobLemmas.{user_read}
+use Rattle.spool_store.proofs.SubmittedDirectories.{last_without_scripts}
 use Rattle.spool_model.specs.declared.row.TheConstants.{MAX_LIVE}
 
 -- nothing is not something
@@ -55,7 +55,7 @@ call_failed table steps old new fault (Err other) call failed = record { files =
 pub call_done : (table : JobTable) (steps : List Step) (old new : World) (kept after : Kept) → after ≡ kept → StoreCall {E = HostFault} table steps old new (Ok kept) → StoreCall {E = StoreFault} table steps old new (Ok after)
 call_done table steps old new kept after same call = record {
   files = call.files;
-  current = subst (λ (at : Kept). IsCurrent at new.now.folder (after_steps table steps)) (sym same) call.current;
+  current = subst (λ (at : Kept). IsCurrent at new.now.directory (after_steps table steps)) (sym same) call.current;
   others = call.others;
 }
 
@@ -84,9 +84,9 @@ module _ (kept : Kept) (jobs : JobTable) (journal : JournalRead) (old_form : Lis
         next = ap (λ n. n + 1) last_is;
       }
 
-  -- the next number, of the table of the folder
-  pub is_next : IsStored (record { table = jobs; journal = journal; old_form = old_form }) → (folder : Folder) (table : JobTable) (number : ℕ) → IsNextNumber kept.table number → IsCurrent kept folder table → IsNextOn kept folder table number
-  is_next stored folder table number next current = record {
+  -- the next number, of the table of the directory
+  pub is_next : IsStored (record { table = jobs; journal = journal; old_form = old_form }) → (directory : Directory) (table : JobTable) (number : ℕ) → IsNextNumber kept.table number → IsCurrent kept directory table → IsNextOn kept directory table number
+  is_next stored directory table number next current = record {
     stored = subst IsStored view stored;
     current = current;
     number_is = next.next ∙ ap (λ n. n + 1) (ap (λ (at : JobTable). at.last) current.without_scripts_is ∙ last_without_scripts table);

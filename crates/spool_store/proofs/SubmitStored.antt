@@ -19,7 +19,7 @@ use Rattle.spool_shows.proofs.FreshNumbers.{fresh_unnamed}
 use Rattle.step_runs.specs.WithoutScripts.{job_without_script}
 use Rattle.step_runs.specs.Current.{Kept}
 use Rattle.spool_store.specs.Stored.{CanBeNamed, IsEntryBy, IsLiveBy, IsStored}
-use Rattle.spool_store.specs.Submitting.{with_job}
+use Rattle.spool_store.specs.Submission.{with_job}
 
 -- no job has the next number
 next_is_free : (table : JobTable) → IsSound table → entry_at table (table.last + 1) ≡ None
@@ -49,7 +49,7 @@ marks_drawn last (mark ∷ later) drawn =
     let tests : (is_drawn last mark ≡ true) × (are_drawn last later ≡ true) = and_parts (is_drawn last mark) (are_drawn last later) drawn in
     and_from (is_drawn (last + 1) mark) (are_drawn (last + 1) later) (mark_drawn last mark tests.0) (marks_drawn last later tests.1)
 
--- what is kept with one job more is as it has to be
+-- what is kept with one more job is as it has to be
 pub submitted_stored : (kept : Kept) (job : Job) → IsStored kept → kept.table.last < LAST_NUMBER → CanBeNamed job.queue job.minute → IsStored (with_job kept job)
 submitted_stored kept job stored more named = record {
   sound = steps_keep_the_table_sound table (submission table (job_without_script job)) stored.sound (submission_legal table (job_without_script job) stored.sound more);

@@ -18,7 +18,7 @@ use Rattle.step_runs.proofs.ApartLemmas.{Apart}
 use Rattle.step_runs.proofs.ListLemmas.{lists_as_on_the_table}
 use Rattle.step_runs.proofs.RowLemmas.{done_apart, done_held, take_apart, take_has}
 use Rattle.spool_store.specs.Listed.{ListsDecided}
-use Rattle.spool_store.specs.Making.{MayMakeSteps}
+use Rattle.spool_store.specs.StepSequences.{MayMakeSteps}
 use Rattle.spool_store.proofs.CountLemmas.{decided_listed}
 use Rattle.spool_store.proofs.MakeLemmas.{changes_made}
 
@@ -53,6 +53,6 @@ surplus_legal table =
 
 -- so that a call may
 pub may_forget : {tells : Bool} {session : Session} {world : World} {kept : Kept} (steps : List Step) → steps ≡ map Forget (surplus kept.table) → IsInside session →
-    (tells ≡ true → (table : JobTable) × IsCurrent kept world.now.folder table) → MayMakeSteps tells session world kept steps
+    (tells ≡ true → (table : JobTable) × IsCurrent kept world.now.directory table) → MayMakeSteps tells session world kept steps
 may_forget {tells} {session} {world} {kept} steps is inside current = subst (MayMakeSteps tells session world kept) (sym is)
     (record { inside = inside; legal = surplus_legal kept.table; changes = changes_made Forget (surplus kept.table) (λ _. tt); current = current })

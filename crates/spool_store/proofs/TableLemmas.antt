@@ -1,4 +1,4 @@
--- The table of the rows and decided numbers, number by number.
+-- The table of the rows and finished numbers, number by number.
 use Rattle.std.proofs.Common.{◌≡◌, ℕ, Bool, true, false, cond, List, Option, Some, None, [], ◌∷◌, ◌++◌, map, sym, ap, subst, ◌∙◌, refl, inl, inr}
 use Rattle.std.specs.Prelude.{◌==◌, option_map, unwrap_or}
 use Rattle.std.specs.declared.cmp.Ordering.TheVariants.{Less}
@@ -33,7 +33,7 @@ use Rattle.start_journal.specs.Lifecycles.{TellLifecycles, decided_of, fate_at, 
 use Rattle.spool_store.specs.inside.Tables.{AreAscending}
 use Rattle.spool_store.specs.inside.JobRows.{AreRowsOf, IsInOrder, ListsRows, RowMap, rows_by_number, row_of}
 use Rattle.spool_store.specs.Rows.{decided_entry, listed_entries, listed_table, row_entry}
-use Rattle.spool_store.proofs.SurveyLemmas.{equal_self, key_is}
+use Rattle.spool_store.proofs.ScanLemmas.{equal_self, key_is}
 
 -- a number, as a key and as a test
 same_test : (one other : ℕ) → eq_by_cmp nat_cmp one other ≡ (other == one)
@@ -70,7 +70,7 @@ find_live number marks (file ∷ files) =
       by_test true rest = refl
       by_test false rest = rest
 
--- The decided numbers of marks.
+-- The finished numbers of marks.
 
 -- the fate, unless the number was forgotten
 unless : Bool → Option Fate → Option JobEntry
@@ -123,7 +123,7 @@ entry_found (entry ∷ list) key value sorted (inr later) = by_test (is_at (nat_
       cc
   by_test false at found = found
 
--- the decided numbers of lives
+-- the finished numbers of lives
 decided_found : (number : ℕ) (entry : ℕ × Lifecycle) (list : List (ℕ × Lifecycle)) (tail : List Decided)
     → find_entry nat_cmp number (map decided_entry tail) ≡ option_map Done (option_and_then remembered_fate (lookup (is_at (nat_cmp number)) list))
     → AllByRecursion (λ key. nat_cmp entry.0 key ≡ Less) (map (λ (e : ℕ × Lifecycle). e.0) list)
@@ -155,7 +155,7 @@ find_rows number (entry ∷ list) keyed =
       by_test true rest = refl
       by_test false rest = rest
 
--- a row stands under the number of its file
+-- a row is under the number of its file
 row_keyed : (marks : List Mark) (files : List JobFile) (key : ℕ) (row : Row) (found : Option JobFile) → file_of key files ≡ found → option_map (row_of marks) found ≡ Some row → row.number ≡ key
 row_keyed marks files key row None is made = cc
 row_keyed marks files key row (Some file) is made =
@@ -247,7 +247,7 @@ numbers_are_keys (entry ∷ list) keyed =
 pub rows_rise : (marks : List Mark) (files : List JobFile) (rows : RowMap) → AreRowsOf marks files rows → IsInOrder rows → AreAscending (map (λ (row : Row). row.number) (map (λ (e : ℕ × Row). e.1) rows))
 rows_rise marks files rows are ordered = subst (IsStrictlySortedBy nat_cmp) (sym (numbers_are_keys rows (rows_keyed marks files rows are ordered))) ordered
 
--- what holds of all keys holds of the decided numbers
+-- what holds of all keys holds of the finished numbers
 kept_all : (P : ℕ → Type 0) (list : List (ℕ × Lifecycle)) → AllByRecursion P (map (λ (e : ℕ × Lifecycle). e.0) list) → AllByRecursion P (map (λ (one : Decided). one.number) (filter_map decided_of list))
 kept_all P [] all = tt
 kept_all P (entry ∷ list) all = by_fate (remembered_fate entry.1) (kept_all P list all.1) where

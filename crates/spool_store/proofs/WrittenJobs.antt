@@ -8,7 +8,7 @@ use Rattle.job_script.proofs.HeaderInLemmas.{header_in-some}
 use Rattle.spool_model.specs.Users.{IsUserName}
 use Rattle.spool_model.specs.declared.job.Job.{Job}
 use Rattle.spool_shows.specs.Shown.{user_of}
-use Rattle.spool_store.specs.Submitting.{job_of_script}
+use Rattle.spool_store.specs.Submission.{job_of_script}
 
 -- it begins with the header of its user
 pub header_of_written : (context : Context) (mail : Bool) (commands : List ℕ) → IsUserName context.user →

@@ -13,7 +13,7 @@ abbrev pub RowsAreLive : Type 0
 RowsAreLive = (table : JobTable) (rows : List Row) → ListsLive table rows → (live_rows table ≡ rows) ×
     (length rows ≡ live_count table)
 
--- the decided numbers of a table are its done ones, and as many
+-- the finished numbers of a table are its done ones, and as many
 abbrev pub DecidedAreDone : Type 0
 DecidedAreDone = (table : JobTable) (decided : List Decided) → ListsDecided table decided →
     (done_numbers table ≡ map (λ one. one.number) decided) × (length decided ≡ done_count table)

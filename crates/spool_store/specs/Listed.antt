@@ -1,5 +1,5 @@
--- Lists of rows and of decided numbers in the order of their numbers, what they say of a table, and one change of such
--- a list (own).
+-- Lists of rows and of finished numbers in the order of their numbers, what they say of a table, and one change of
+-- such a list (own).
 use Rattle.std.specs.Prelude.{◌≡◌, ◌≤◌, ◌++◌, [], ℕ, List, Option, Some, None, IsSome, IsTrue, Contains, map, if◌then◌else◌, nat_eq}
 use Rattle.std.specs.FinMap.{find, is_sorted}
 use Rattle.std.specs.Ordering.{nat_cmp}
@@ -23,7 +23,7 @@ AreSortedEntries entries = IsTrue (is_sorted nat_cmp entries)
 abbrev pub entry_under : List (ℕ × JobEntry) → ℕ → Option JobEntry
 entry_under entries number = find nat_cmp number entries
 
--- The entries of rows and those of decided numbers: each list in order, no number in both, and each number drawn.
+-- The entries of rows and those of finished numbers: each list in order, no number in both, and each number drawn.
 pub record AreListed (last : ℕ) (live decided : List (ℕ × JobEntry)) : Type 0 where
   pub live_rise : AreSortedEntries live
   pub decided_rise : AreSortedEntries decided
@@ -46,7 +46,7 @@ pub record ListsLive (table : JobTable) (rows : List Row) : Type 0 where
   pub all : (number : ℕ) (job : Job) (state : JobState) → entry_at table number ≡ Some (Live job state)
       → (row : Row) × Contains rows row × (row_entry row ≡ (number, Live job state))
 
--- These are the table's decided numbers, in order.
+-- These are the table's finished numbers, in order.
 pub record ListsDecided (table : JobTable) (decided : List Decided) : Type 0 where
   pub rise : AreSortedEntries (map decided_entry decided)
   pub each : (done : Decided) → Contains decided done → entry_at table done.number ≡ Some (Done done.fate)

@@ -1,7 +1,7 @@
 -- The file of a live job (own): its name, the script that it holds, and the header of that.
 use Rattle.std.specs.Prelude.{◌≡◌, ℕ, List, Some}
 use Rattle.std.specs.FinMap as finite
-use Rattle.host_calls.specs.Folder.{Folder, reading_of}
+use Rattle.host_calls.specs.Directory.{Directory, reading_of}
 use Rattle.job_name.specs.JobName.{SpellsJobName}
 use Rattle.job_script.specs.declared.headers.JobHeader.{JobHeader}
 use Rattle.job_script.specs.HeaderIn.{header_in}
@@ -33,7 +33,7 @@ pub record IsHeaderOn (table : JobTable) (number : ℕ) (found : JobHeader) : Ty
   pub user_is : found.user ≡ job.user
 
 -- the file of that name holds the script of the live job
-pub record HoldsScript (table : JobTable) (folder : Folder) (number : ℕ) (name : List ℕ) : Type 0 where
+pub record HoldsScript (table : JobTable) (directory : Directory) (number : ℕ) (name : List ℕ) : Type 0 where
   pub bytes : List ℕ
-  pub held : finite.get (reading_of folder) name ≡ Some bytes
+  pub held : finite.get (reading_of directory) name ≡ Some bytes
   pub script : IsScriptOf table number bytes

@@ -10,11 +10,11 @@ use Rattle.spool_model.specs.JobTable.{IsSound, JobEntry, entry_at}
 use Rattle.start_journal.specs.declared.mark.Mark.{Mark}
 use Rattle.start_journal.specs.Journals.{are_drawn}
 use Rattle.start_journal.specs.Marks.{has_mark_of, is_open, is_remembered}
-use Rattle.clock_range.specs.ClockRange.{IsClockMinute, IsClockSecond}
+use Rattle.host_calls.specs.ClockRange.{IsClockMinute, IsClockSecond}
 use Rattle.step_runs.specs.Current.{Kept, is_new_form}
 use Rattle.spool_model.specs.Numbers.{number_digits}
 
--- the queue and the minute can stand in the name of a job's file
+-- the queue and the minute can be in the name of a job's file
 pub record CanBeNamed (queue minute : ℕ) : Type 0 where
   pub letter : IsTrue (is_ascii_alphabetic queue)
   pub in_calendar : IsClockMinute minute
@@ -25,7 +25,7 @@ RunsSince Pending = Unit {0}
 RunsSince (Running second) = IsClockSecond second
 
 -- the marks that tell of a live job in this state: none names one that is pending, and one that runs was
--- started and not decided
+-- started and not finished
 abbrev pub IsStateBy : List Mark → ℕ → State → Type 0
 IsStateBy marks number Pending = has_mark_of number marks ≡ false
 IsStateBy marks number (Running second) = is_open number marks ≡ true

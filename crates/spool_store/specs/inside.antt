@@ -1,6 +1,6 @@
-pub mod SurveyedJobs
+pub mod ScannedJobs
 pub mod JobRows
 pub mod Lined
-pub mod Marking
-pub mod Survey
+pub mod JournalMark
+pub mod Scan
 pub mod Tables

@@ -1,6 +1,6 @@
 //! Steps that are made one after another.
-ghost use Rattle.spool_store.specs.Making.{IsChange, MakesSteps, MayMakeSteps};
-ghost use Rattle.spool_store.specs.Stepping.{MakesStep, MayStep};
+ghost use Rattle.spool_store.specs.StepSequences.{IsChange, MakesSteps, MayMakeSteps};
+ghost use Rattle.spool_store.specs.OneStep.{MakesStep, MayStep};
 
 use crate::{Store, StoreFault};
 use host_calls::Host;

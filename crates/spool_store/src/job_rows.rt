@@ -1,4 +1,4 @@
-//! The survey of the files of jobs, file by file.
+//! The scan of the files of jobs, file by file.
 ghost use Rattle.std.specs.Prelude.{◌≡◌, ◌++◌, ◌∷◌, ℕ, [], Some, None, List, IfOk, IfSome, OnOk, MatchResult};
 ghost use Rattle.std.specs.BTreeMap.{IsOrdered, Updates, values};
 ghost use Rattle.std.specs.Ordering.{nat_cmp};
@@ -9,10 +9,10 @@ ghost use Rattle.start_journal.specs.declared.mark.Mark.{Mark};
 ghost use Rattle.host_calls.specs.StoreFaults.{IsFound};
 ghost use Rattle.start_journal.specs.Lifecycles.{TellLifecycles};
 ghost use Rattle.spool_store.specs.inside.JobRows.{AreRowsOf, HaveRows, IsRowOrDamage, IsTaken};
-ghost use Rattle.spool_store.specs.inside.SurveyedJobs.{file_surveyed, files_surveyed};
+ghost use Rattle.spool_store.specs.inside.ScannedJobs.{file_scanned, files_scanned};
 
 use crate::StoreFault;
-use crate::surveyed_job::SurveyedJob;
+use crate::scanned_job::ScannedJob;
 use host_calls::Damage;
 use spool_model::{Row, State};
 use start_journal::Lifecycles;
@@ -24,15 +24,15 @@ pub(crate) fn rows_in_order(
     alloc: Global,
     last: u32,
     lives: &Lifecycles,
-    surveyed: &[SurveyedJob],
+    scanned: &[ScannedJob],
 ) -> Result<Vec<Row>, StoreFault>
     ensures { (marks : List Mark) → TellLifecycles marks lives.now → MatchResult result
-        (λ rows. HaveRows last marks (files_surveyed surveyed.now) rows.items)
-        (IsFound (files_damage last [] (files_surveyed surveyed.now))) }
+        (λ rows. HaveRows last marks (files_scanned scanned.now) rows.items)
+        (IsFound (files_damage last [] (files_scanned scanned.now))) }
 {
-    match rising_rows(alloc, last, lives, surveyed)? {
+    match rising_rows(alloc, last, lives, scanned)? {
         Some(rows) => Ok(rows),
-        None => sorted_rows(alloc, last, lives, surveyed),
+        None => sorted_rows(alloc, last, lives, scanned),
     }
 }
 
@@ -41,15 +41,15 @@ fn rising_rows(
     alloc: Global,
     last: u32,
     lives: &Lifecycles,
-    surveyed: &[SurveyedJob],
+    scanned: &[ScannedJob],
 ) -> Result<Option<Vec<Row>>, StoreFault>
     ensures { (marks : List Mark) → TellLifecycles marks lives.now → MatchResult result
-        (λ found. IfSome found (λ rows. HaveRows last marks (files_surveyed surveyed.now) rows.items))
-        (IsFound (files_damage last [] (files_surveyed surveyed.now))) }
+        (λ found. IfSome found (λ rows. HaveRows last marks (files_scanned scanned.now) rows.items))
+        (IsFound (files_damage last [] (files_scanned scanned.now))) }
 {
-    let mut rows = Vec::with_capacity(alloc, surveyed.len())?;
+    let mut rows = Vec::with_capacity(alloc, scanned.len())?;
     let mut above = 0;
-    for file in surveyed {
+    for file in scanned {
         if file.job.number <= above {
             return Ok(None);
         }
@@ -72,13 +72,13 @@ fn sorted_rows(
     alloc: Global,
     last: u32,
     lives: &Lifecycles,
-    surveyed: &[SurveyedJob],
+    scanned: &[ScannedJob],
 ) -> Result<Vec<Row>, StoreFault>
     ensures { (marks : List Mark) → TellLifecycles marks lives.now → MatchResult result
-        (λ rows. HaveRows last marks (files_surveyed surveyed.now) rows.items)
-        (IsFound (files_damage last [] (files_surveyed surveyed.now))) }
+        (λ rows. HaveRows last marks (files_scanned scanned.now) rows.items)
+        (IsFound (files_damage last [] (files_scanned scanned.now))) }
 {
-    let by_number = rows_of_files(alloc, last, lives, surveyed)?;
+    let by_number = rows_of_files(alloc, last, lives, scanned)?;
     let rows = values_of(alloc, &by_number)?;
     Ok(rows)
 }
@@ -95,15 +95,15 @@ fn rows_of_files(
     alloc: Global,
     last: u32,
     lives: &Lifecycles,
-    surveyed: &[SurveyedJob],
+    scanned: &[ScannedJob],
 ) -> Result<BTreeMap<u32, Row>, StoreFault>
     ensures { (marks : List Mark) → TellLifecycles marks lives.now → MatchResult result
-        (λ rows. (files_damage last [] (files_surveyed surveyed.now) ≡ None)
-        × AreRowsOf marks (files_surveyed surveyed.now) rows.entries)
-        (IsFound (files_damage last [] (files_surveyed surveyed.now))) }
+        (λ rows. (files_damage last [] (files_scanned scanned.now) ≡ None)
+        × AreRowsOf marks (files_scanned scanned.now) rows.entries)
+        (IsFound (files_damage last [] (files_scanned scanned.now))) }
 {
     let mut rows = BTreeMap::new(alloc);
-    for file in surveyed {
+    for file in scanned {
         let row = row_of(last, rows.contains_key(&file.job.number), lives, file)?;
         put_row(&mut rows, row)?;
     }
@@ -111,9 +111,9 @@ fn rows_of_files(
 }
 
 // The row of a file, or its damage. Whether a file before it has its number is told.
-fn row_of(last: u32, is_taken: bool, lives: &Lifecycles, file: &SurveyedJob) -> Result<Row, Damage>
+fn row_of(last: u32, is_taken: bool, lives: &Lifecycles, file: &ScannedJob) -> Result<Row, Damage>
     ensures { (before : List ℕ) (marks : List Mark) → IsTaken before file.now.job.number is_taken
-        → TellLifecycles marks lives.now → IsRowOrDamage last before marks (file_surveyed file.now) result }
+        → TellLifecycles marks lives.now → IsRowOrDamage last before marks (file_scanned file.now) result }
 {
     let job = file.job;
     if job.number > last || is_taken {

@@ -1,6 +1,6 @@
 //! What a store keeps of its jobs.
-ghost use Rattle.clock_range.specs.ClockRange.{IsClockSecond};
-ghost use Rattle.due_lines.specs.Dues.{IsLineOf};
+ghost use Rattle.host_calls.specs.ClockRange.{IsClockSecond};
+ghost use Rattle.queue_rules.specs.Dues.{IsLineOf};
 ghost use Rattle.queue_rules.specs.Order.{is_ready_batch, is_ready_job};
 ghost use Rattle.spool_model.specs.Lists.{live_rows};
 ghost use Rattle.std.specs.Prelude.{◌≡◌, ◌↔◌, IfOk, OnOk, OnErr, IsTrue, IfSome, IfNone, Some, map, if◌then◌else◌};
@@ -9,12 +9,12 @@ ghost use Rattle.spool_model.specs.declared.state.State.TheVariants.{Pending};
 ghost use Rattle.spool_model.specs.declared.step.Step.TheVariants.{Draw, Accept, Start, Forget};
 ghost use Rattle.spool_model.specs.JobTable.{entry_at, is_batch_queue, IsDone};
 ghost use Rattle.spool_model.specs.Steps.{IsFree, IsLegal, after_step};
-ghost use Rattle.spool_shows.specs.Deciding.{decision};
+ghost use Rattle.spool_shows.specs.FateSteps.{decision};
 ghost use Rattle.spool_store.specs.Listed.{AreListed, IsLive, ListsDecided, ListsLive, row_job};
 ghost use Rattle.spool_store.specs.Rows.{decided_entry, listed_table, row_entry};
 
 use crate::sorted;
-use due_lines::{Due, Lines};
+use queue_rules::{Due, Lines};
 use spool_model::{Decided, Fate, Row, is_batch};
 use std::alloc::{AllocError, Global};
 use std::marker::Model;
@@ -47,7 +47,7 @@ impl Model for Jobs {
 }
 
 impl Jobs {
-    // The jobs of these rows and decided numbers, both in the order of their numbers.
+    // The jobs of these rows and finished numbers, both in the order of their numbers.
     pub(crate) fn of(
         alloc: Global,
         last: u32,

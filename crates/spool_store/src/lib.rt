@@ -3,12 +3,14 @@
 #![tactic(auto)]
 
 mod changes;
-mod folder_scan;
+mod directory_scan;
 mod job_rows;
 mod jobs;
 mod laws;
 mod mark;
 mod recovery;
+mod scanned_files;
+mod scanned_job;
 mod scripts;
 mod sorted;
 mod starts;
@@ -16,16 +18,14 @@ mod steps;
 mod store;
 mod submit;
 mod surplus;
-mod surveyed_files;
-mod surveyed_job;
 mod tables;
 
-pub use due_lines::Due;
 pub use host_calls::StoreFault;
 pub(crate) use jobs::Jobs;
 pub use laws::{
     changes_beside_show_the_same, lists_are_of_the_table, stores_stay_current_beside,
     submissions_add_one_job,
 };
+pub use queue_rules::Due;
 pub use spool_model::MAX_LIVE;
 pub use store::Store;

@@ -1,17 +1,17 @@
-//! One mark more in the journal, and the file of a job that it decides.
+//! One more mark in the journal, and the file of a job that it decides.
 ghost use Rattle.std.specs.Prelude.{◌≡◌, ◌≤◌, [], ◌∷◌, ℕ, List, false, IfOk, IsTrue, OnOk};
 ghost use Rattle.host_calls.specs.Session.{CallsInside, IsInside};
 ghost use Rattle.spool_model.specs.declared.step.Step.{Step};
 ghost use Rattle.spool_model.specs.JobTable.{JobTable};
 ghost use Rattle.spool_model.specs.Steps.{after_step};
-ghost use Rattle.start_journal.specs.Changing.{added};
+ghost use Rattle.start_journal.specs.JournalChange.{added};
 ghost use Rattle.start_journal.specs.Marks.{AreLegalMarks, IsLegalAfter};
 ghost use Rattle.start_journal.specs.Slots.{IsWritable};
 ghost use Rattle.whole_file.specs.Others.{ChangesFiles};
 ghost use Rattle.step_runs.specs.Calls.{IsSteppingOn, StoreCall};
 ghost use Rattle.step_runs.specs.Current.{IsCurrent};
-ghost use Rattle.spool_store.specs.inside.Marking.{IsDecisionOf, IsMarkOf, IsMarkDurable, KeepsFiles, kept_by, kept_with};
-ghost use Rattle.spool_store.specs.Stepping.{needs_room, with_room};
+ghost use Rattle.spool_store.specs.inside.JournalMark.{IsDecisionOf, IsMarkOf, IsMarkDurable, KeepsFiles, kept_by, kept_with};
+ghost use Rattle.spool_store.specs.OneStep.{needs_room, with_room};
 
 use host_calls::{Host, HostFault, Name};
 use start_journal::{Journal, Mark};
@@ -29,19 +29,19 @@ pub(crate) fn add_mark<H: Host>(
     requires writable { IsWritable mark }
     requires legal { IsLegalAfter journal.marks mark }
     requires current { IsTrue H.tells → (old_form : List ℕ) × (table : JobTable)
-        × (step : Step) × IsMarkOf old_form journal (H.world host.old).now.folder table step mark }
+        × (step : Step) × IsMarkOf old_form journal (H.world host.old).now.directory table step mark }
     ensures inside { CallsInside HostFault.Failed (H.session host.old) (H.session host.new) result }
     ensures legal { AreLegalMarks journal.marks }
     ensures journal { IfOk result (λ new. new ≡ added (with_room journal) mark) }
     ensures files { IsTrue H.tells → (old_form : List ℕ) (table : JobTable) (step : Step)
-        → IsMarkOf old_form journal (H.world host.old).now.folder table step mark
-        → ChangesFiles (IsSteppingOn table (step ∷ []) (H.world host.old).now.folder)
+        → IsMarkOf old_form journal (H.world host.old).now.directory table step mark
+        → ChangesFiles (IsSteppingOn table (step ∷ []) (H.world host.old).now.directory)
         (H.world host.old) (H.world host.new) }
     ensures marked { IsTrue H.tells → (old_form : List ℕ) (table : JobTable) (step : Step)
-        → IsMarkOf old_form journal (H.world host.old).now.folder table step mark
-        → IfOk result (λ new. IsMarkDurable journal.marks new (H.world host.new).now.folder (after_step table step)) }
+        → IsMarkOf old_form journal (H.world host.old).now.directory table step mark
+        → IfOk result (λ new. IsMarkDurable journal.marks new (H.world host.new).now.directory (after_step table step)) }
     ensures others { IsTrue H.tells
-        → OnOk result (KeepsFiles (H.world host.old).now.folder (H.world host.new).now.folder) }
+        → OnOk result (KeepsFiles (H.world host.old).now.directory (H.world host.new).now.directory) }
 {
     let journal = with_free_slot(alloc, host, journal)?;
     journal.add(alloc, host, mark)
@@ -65,20 +65,20 @@ fn with_free_slot<H: Host>(
 ) -> Result<Journal, HostFault>
     requires inside { IsInside (H.session host.old) }
     requires current { IsTrue H.tells → (old_form : List ℕ) × (table : JobTable)
-        × IsCurrent (kept_with old_form journal table) (H.world host.old).now.folder table }
+        × IsCurrent (kept_with old_form journal table) (H.world host.old).now.directory table }
     ensures inside { CallsInside HostFault.Failed (H.session host.old) (H.session host.new) result }
     ensures room { IfOk result (λ new. 1 ≤ new.free) }
     ensures journal { IfOk result (λ new. new ≡ with_room journal) }
     ensures untouched { needs_room journal ≡ false → host.new ≡ host.old }
     ensures legal { AreLegalMarks journal.marks }
     ensures files { IsTrue H.tells → (old_form : List ℕ) (table : JobTable)
-        → IsCurrent (kept_with old_form journal table) (H.world host.old).now.folder table
-        → ChangesFiles (IsSteppingOn table [] (H.world host.old).now.folder) (H.world host.old) (H.world host.new) }
+        → IsCurrent (kept_with old_form journal table) (H.world host.old).now.directory table
+        → ChangesFiles (IsSteppingOn table [] (H.world host.old).now.directory) (H.world host.old) (H.world host.new) }
     ensures current { IsTrue H.tells → (old_form : List ℕ) (table : JobTable)
-        → IsCurrent (kept_with old_form journal table) (H.world host.old).now.folder table
-        → IfOk result (λ new. IsCurrent (kept_with old_form new table) (H.world host.new).now.folder table) }
+        → IsCurrent (kept_with old_form journal table) (H.world host.old).now.directory table
+        → IfOk result (λ new. IsCurrent (kept_with old_form new table) (H.world host.new).now.directory table) }
     ensures others { IsTrue H.tells
-        → OnOk result (KeepsFiles (H.world host.old).now.folder (H.world host.new).now.folder) }
+        → OnOk result (KeepsFiles (H.world host.old).now.directory (H.world host.new).now.directory) }
 {
     if !needs_room(alloc, &journal)? {
         return Ok(journal);
@@ -100,12 +100,12 @@ pub(crate) fn decide_job<H: Host>(
     requires writable { IsWritable mark }
     requires legal { IsLegalAfter journal.marks mark }
     requires current { IsTrue H.tells → (old_form : List ℕ) × (table : JobTable)
-        × (step : Step) × IsDecisionOf old_form journal (H.world host.old).now.folder table step mark file.now }
+        × (step : Step) × IsDecisionOf old_form journal (H.world host.old).now.directory table step mark file.now }
     ensures inside { CallsInside HostFault.Failed (H.session host.old) (H.session host.new) result }
     ensures legal { AreLegalMarks journal.marks }
     ensures journal { IfOk result (λ new. new ≡ added (with_room journal) mark) }
     ensures files { IsTrue H.tells → (old_form : List ℕ) (table : JobTable) (step : Step)
-        → IsDecisionOf old_form journal (H.world host.old).now.folder table step mark file.now
+        → IsDecisionOf old_form journal (H.world host.old).now.directory table step mark file.now
         → StoreCall table (step ∷ []) (H.world host.old) (H.world host.new)
         (kept_by old_form (after_step table step) result) }
 {

@@ -1,6 +1,6 @@
 //! The files of live jobs.
 ghost use Rattle.std.specs.Prelude.{◌≡◌, IfNone, IfOk, IfSome, IsTrue};
-ghost use Rattle.host_calls.specs.Folder.{Folder};
+ghost use Rattle.host_calls.specs.Directory.{Directory};
 ghost use Rattle.host_calls.specs.Session.{CallsInside, IsInside};
 ghost use Rattle.spool_model.specs.JobTable.{JobTable};
 ghost use Rattle.step_runs.specs.Current.{IsCurrent};
@@ -18,8 +18,8 @@ impl Store {
     pub fn file(&self, number: u32) -> Option<Name>
         ensures found { IfSome result (IsLiveFileName self.now.table self.now.old_form number) }
         ensures absent { IfNone result (IsLive self.now.table number → ⊥) }
-        ensures holds { (folder : Folder) (table : JobTable) → IsCurrent self.now folder table
-            → IfSome result (HoldsScript table folder number) }
+        ensures holds { (directory : Directory) (table : JobTable) → IsCurrent self.now directory table
+            → IfSome result (HoldsScript table directory number) }
     {
         let row = self.jobs.row(number)?;
         let job = JobName {
@@ -41,11 +41,11 @@ impl Store {
         requires inside { IsInside (H.session host.old) }
         requires live { IsLive self.now.table number }
         requires current { IsTrue H.tells → (table : JobTable)
-            × IsCurrent self.now (H.world host.old).now.folder table }
+            × IsCurrent self.now (H.world host.old).now.directory table }
         ensures inside { CallsInside HostFault.Failed (H.session host.old) (H.session host.new) result }
         ensures looks { IsTrue H.tells → H.world host.new ≡ H.world host.old }
         ensures script { IsTrue H.tells → (table : JobTable)
-            → IsCurrent self.now (H.world host.old).now.folder table → IfOk result (IsScriptOf table number) }
+            → IsCurrent self.now (H.world host.old).now.directory table → IfOk result (IsScriptOf table number) }
     {
         let name = self.file(number).unwrap();
         let length = host.length(alloc, &name)?;
@@ -64,11 +64,11 @@ impl Store {
         requires inside { IsInside (H.session host.old) }
         requires live { IsLive self.now.table number }
         requires current { IsTrue H.tells → (table : JobTable)
-            × IsCurrent self.now (H.world host.old).now.folder table }
+            × IsCurrent self.now (H.world host.old).now.directory table }
         ensures inside { CallsInside HostFault.Failed (H.session host.old) (H.session host.new) result }
         ensures looks { IsTrue H.tells → H.world host.new ≡ H.world host.old }
         ensures header { IsTrue H.tells → (table : JobTable)
-            → IsCurrent self.now (H.world host.old).now.folder table → IfOk result (IsHeaderOn table number) }
+            → IsCurrent self.now (H.world host.old).now.directory table → IfOk result (IsHeaderOn table number) }
     {
         let row = self.jobs.row(number).unwrap();
         let name = self.file(number).unwrap();

@@ -1,4 +1,4 @@
-//! Rows and decided numbers in vectors, in the order of their numbers.
+//! Rows and finished numbers in vectors, in the order of their numbers.
 ghost use Rattle.std.specs.Prelude.{◌∷◌, [], ◌≡◌, ◌≤◌, ◌<◌, IfNone, IfSome, OnOk, OnErr, IsSome, Some, None, length, map};
 ghost use Rattle.std.specs.List.Sorted.{IsPartitionPoint};
 ghost use Rattle.spool_model.specs.declared.entry.Entry.TheVariants.{Live, Done};
@@ -33,7 +33,7 @@ pub(crate) fn row_of_number(rows: &[Row], number: u32) -> Option<&Row>
     }
 }
 
-// How many decided numbers are smaller: the place of this number.
+// How many finished numbers are smaller: the place of this number.
 pub(crate) fn decided_place(decided: &[Decided], number: u32) -> usize
     requires { AreSortedEntries (map decided_entry decided.now) }
     ensures bound { result ≤ length decided.now }
@@ -71,7 +71,7 @@ pub(crate) fn start_row(rows: &mut Vec<Row>, number: u32, second: i64) -> Row
     row
 }
 
-// Puts a number that is not there among the decided ones.
+// Puts a number that is not there among the finished ones.
 pub(crate) fn insert_decided(decided: &mut Vec<Decided>, done: Decided) -> Result<(), AllocError>
     requires order { AreSortedEntries (map decided_entry decided.old.items) }
     requires absent { entry_under (map decided_entry decided.old.items) done.number ≡ None }
@@ -84,7 +84,7 @@ pub(crate) fn insert_decided(decided: &mut Vec<Decided>, done: Decided) -> Resul
     Ok(())
 }
 
-// Takes this number out of the decided ones.
+// Takes this number out of the finished ones.
 pub(crate) fn remove_decided(decided: &mut Vec<Decided>, number: u32)
     requires order { AreSortedEntries (map decided_entry decided.old.items) }
     requires present { IsSome (entry_under (map decided_entry decided.old.items) number) }

@@ -1,4 +1,4 @@
-//! The check of the numbers that are started and not decided.
+//! The check of the numbers that are started and not finished.
 ghost use Rattle.std.specs.Prelude.{◌≡◌, ◌<◌, ◌+◌, ◌*◌, ◌^◌, ℕ, List, Some, length, map};
 ghost use Rattle.spool_shows.specs.JobFiles.{JobFile};
 ghost use Rattle.spool_shows.specs.Shown.{mark_damage, starts_damage};
@@ -13,7 +13,7 @@ use host_calls::Damage;
 use spool_model::Row;
 use start_journal::{Lifecycles, Mark, gate_damage, queue_damage};
 
-// The damage of the first start whose number is not decided and has no row, or one of another queue.
+// The damage of the first start whose number is not finished and has no row, or one of another queue.
 pub(crate) fn starts_fault(marks: &[Mark], lives: &Lifecycles, rows: &[Row]) -> Option<Damage>
     requires fits { 32 * length marks.now < 2 ^ 64 }
     requires order { AreSortedEntries (map row_entry rows.now) }

@@ -1,9 +1,9 @@
 //! The steps of a job that the store makes, each by one mark in the journal.
 ghost use Rattle.spool_model.specs.declared.step.Step.TheVariants.{Remove, Start, End, Interrupt, Forget};
 ghost use Rattle.std.specs.Prelude.{◌≡◌};
-ghost use Rattle.clock_range.specs.ClockRange.{IsClockSecond};
-ghost use Rattle.spool_shows.specs.Deciding.{decision, decision_mark};
-ghost use Rattle.spool_store.specs.Stepping.{MakesStep, MayStep};
+ghost use Rattle.host_calls.specs.ClockRange.{IsClockSecond};
+ghost use Rattle.spool_shows.specs.FateSteps.{decision, decision_mark};
+ghost use Rattle.spool_store.specs.OneStep.{MakesStep, MayStep};
 
 use crate::mark::{add_mark, decide_job};
 use crate::{Store, StoreFault};
@@ -27,8 +27,8 @@ impl Store {
         self.decide(alloc, host, number, Fate::Removed)
     }
 
-    /// Writes that the pending job of this number starts at this second. It hands nothing over: once this has
-    /// answered Ok, the start survives every crash.
+    /// Writes that the pending job of this number starts at this second. It starts nothing: once this has
+    /// returned Ok, the start survives every crash.
     pub fn start<H: Host>(
         mut self,
         alloc: Global,

@@ -1,24 +1,24 @@
-//! The store: the jobs of a spool folder, and the journal that it has of them.
+//! The store: the jobs of a spool directory, and the journal that it has of them.
 ghost use Rattle.std.specs.Prelude.{◌≡◌, IfNone, IfSome, IsTrue, Contains};
-ghost use Rattle.clock_range.specs.ClockRange.{IsClockSecond};
+ghost use Rattle.host_calls.specs.ClockRange.{IsClockSecond};
 ghost use Rattle.spool_model.specs.declared.row.Row.{Row};
 ghost use Rattle.spool_model.specs.JobTable.{IsSound};
 ghost use Rattle.spool_model.specs.Lists.{live_rows};
 ghost use Rattle.queue_rules.specs.Order.{is_ready_batch, is_ready_job};
-ghost use Rattle.due_lines.specs.Dues.{IsLineOf};
+ghost use Rattle.queue_rules.specs.Dues.{IsLineOf};
 ghost use Rattle.spool_store.specs.Listed.{IsLive, IsRowOf, ListsDecided, ListsLive};
 ghost use Rattle.spool_store.specs.Stored.{IsRowInRange, IsStored};
 
 use crate::Jobs;
-use due_lines::Due;
+use queue_rules::Due;
 use spool_model::{Decided, Row};
 use start_journal::Journal;
 use std::marker::Model;
 
-/// The jobs of a spool folder as they stood at the last call: seen as the job table without scripts, the
+/// The jobs of a spool directory as they stood at the last call: seen as the job table without scripts, the
 /// journal, and the numbers whose files have names of the old form.
 ///
-/// A store is current on a host where each image shows its table. Each call that changes the folder takes
+/// A store is current on a host where each image shows its table. Each call that changes the directory takes
 /// the store, and hands a current one back only on Ok.
 #[derive(Drop)]
 pub struct Store {

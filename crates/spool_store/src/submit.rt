@@ -1,7 +1,7 @@
 //! Submissions.
 ghost use Rattle.std.specs.Prelude.{◌≡◌, IfErr, IfOk, IsErrOf, IsSome, IsTrue, OnOk, true};
 ghost use Rattle.std.specs.Char.{is_ascii_alphabetic};
-ghost use Rattle.clock_range.specs.ClockRange.{IsClockMinute};
+ghost use Rattle.host_calls.specs.ClockRange.{IsClockMinute};
 ghost use Rattle.host_calls.specs.Session.{CallsInside, IsInside};
 ghost use Rattle.job_script.specs.HeaderIn.{header_in};
 ghost use Rattle.spool_model.specs.JobTable.{JobTable};
@@ -9,7 +9,7 @@ ghost use Rattle.spool_model.specs.Steps.{after_steps, submission};
 ghost use Rattle.step_runs.specs.WithoutScripts.{job_without_script};
 ghost use Rattle.step_runs.specs.Calls.{StoreCall};
 ghost use Rattle.step_runs.specs.Current.{IsCurrent, Kept};
-ghost use Rattle.spool_store.specs.Submitting.{HasNewFormFile, IsAnswerOn, IsNextNumber, IsNextOn, IsRefusal, job_of_script, kept_after_submission, with_job_if};
+ghost use Rattle.spool_store.specs.Submission.{HasNewFormFile, IsAnswerOn, IsNextNumber, IsNextOn, IsRefusal, job_of_script, kept_after_submission, with_job_if};
 
 use crate::{Store, StoreFault};
 use host_calls::{Host, HostFault};
@@ -36,17 +36,17 @@ impl Store {
         requires minute { IsClockMinute minute }
         requires header { IsSome (header_in script.now) }
         requires current { IsTrue H.tells → (table : JobTable)
-            × IsCurrent self (H.world host.old).now.folder table }
+            × IsCurrent self (H.world host.old).now.directory table }
         ensures inside { CallsInside StoreFault.FileFault (H.session host.old) (H.session host.new) result }
         ensures answer { IsAnswerOn self.table result }
         ensures queue_full { IsErrOf result StoreFault.QueueFull → host.new ≡ host.old }
         ensures used_up { IsErrOf result StoreFault.NumbersUsedUp → host.new ≡ host.old }
         ensures kept { IfOk result (λ stored. stored.0.table ≡ after_steps self.table
             (submission self.table (job_without_script (job_of_script queue minute script.now)))) }
-        ensures files { IsTrue H.tells → (table : JobTable) → IsCurrent self (H.world host.old).now.folder table
+        ensures files { IsTrue H.tells → (table : JobTable) → IsCurrent self (H.world host.old).now.directory table
             → StoreCall table (submission table (job_of_script queue minute script.now))
             (H.world host.old) (H.world host.new) (kept_after_submission result) }
-        ensures named { IsTrue H.tells → IfOk result (λ stored. HasNewFormFile (H.world host.new).now.folder
+        ensures named { IsTrue H.tells → IfOk result (λ stored. HasNewFormFile (H.world host.new).now.directory
             queue minute script.now stored.1) }
     {
         let number = self.next_number()?;
@@ -97,14 +97,14 @@ fn file_job<H: Host>(
     requires header { IsSome (header_in script.now) }
     requires new_form { job.now.new_form ≡ true }
     requires current { IsTrue H.tells → (kept : Kept) × (table : JobTable)
-        × IsNextOn kept (H.world host.old).now.folder table job.now.number }
+        × IsNextOn kept (H.world host.old).now.directory table job.now.number }
     ensures inside { CallsInside HostFault.Failed (H.session host.old) (H.session host.new) result }
     ensures files { IsTrue H.tells → (kept : Kept) (table : JobTable)
-        → IsNextOn kept (H.world host.old).now.folder table job.now.number
+        → IsNextOn kept (H.world host.old).now.directory table job.now.number
         → StoreCall table (submission table (job_of_script job.now.queue job.now.minute script.now))
         (H.world host.old) (H.world host.new)
         (with_job_if kept (job_of_script job.now.queue job.now.minute script.now) result) }
-    ensures named { IsTrue H.tells → OnOk result (HasNewFormFile (H.world host.new).now.folder
+    ensures named { IsTrue H.tells → OnOk result (HasNewFormFile (H.world host.new).now.directory
         job.now.queue job.now.minute script.now job.now.number) }
 {
     let name = job.name();

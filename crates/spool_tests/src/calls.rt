@@ -1,4 +1,4 @@
-//! A draw on a folder that was settled just before.
+//! A draw on a directory that was settled just before.
 ghost use Rattle.host_calls.specs.Session.{IsInside, StaysInside};
 
 use host_calls::Host;

@@ -16,7 +16,7 @@ const PICKS: [u64; 4] = [0, 1, 255, u64::MAX];
 const JOURNAL: &[u8] =
     b"+R00000001--000000000000000000.\n+B00000000--000000000000000005.\n+B00000000--000000000000000007.\n-..............................\n";
 
-// A folder with a journal, where no call gets through from the fuse on.
+// A directory with a journal, where no call gets through from the fuse on.
 fn spool(alloc: Global, fuse: u64) -> Result<MemoryHost, AllocError>
     ensures { IfOk result (λ host. IsOutside (memory_session host)) }
 {

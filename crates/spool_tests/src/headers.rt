@@ -1,5 +1,5 @@
 //! How little a recovery reads of a job's file: its header alone, however long the job is.
-use crate::folders::session;
+use crate::directories::session;
 use crate::noting_host::NotingHost;
 use spool_store::Store;
 use std::alloc::Global;
@@ -10,7 +10,7 @@ const HEADER: &[u8] = b"#!/bin/sh\n# at user=ann mail=0\n";
 // So many bytes of commands stand after the header.
 const COMMANDS: usize = 1_048_576;
 
-// How often the file of job 1 is read in a recovery, and how many bytes one read asks for at most.
+// How often the file of job 1 is read in a recovery, and how many bytes one read requests at most.
 fn reads_of_a_long_job(alloc: Global) -> Result<(u32, usize), Fail> {
     let mut script = Vec::with_capacity(alloc, HEADER.len() + COMMANDS)?;
     script.extend_from_slice(HEADER)?;

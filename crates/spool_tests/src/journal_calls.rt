@@ -1,4 +1,4 @@
-//! A compaction of the journal, on a folder that was settled just before.
+//! A compaction of the journal, on a directory that was settled just before.
 ghost use Rattle.host_calls.specs.Session.{IsInside, StaysInside};
 
 use host_calls::Host;

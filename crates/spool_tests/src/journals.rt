@@ -1,5 +1,5 @@
 //! Slots of the journal, and journals, by the tables of their format.
-use crate::folders::{name, session};
+use crate::directories::{name, session};
 use crate::journal_calls::compact;
 use host_calls::Ending;
 use start_journal::{Journal, JournalFault, Mark, mark_text, read_mark};
@@ -70,7 +70,7 @@ fn slots_that_spell_no_mark(rt: HostRuntime) {
     }
 }
 
-// The journal of a folder whose journal holds these bytes, where this number was drawn last.
+// The journal of a directory whose journal holds these bytes, where this number was drawn last.
 fn read(alloc: Global, bytes: &[u8], last: u32) -> Result<Result<Journal, JournalFault>, Fail> {
     let mut host = session(alloc, &[(".JRN", bytes)])?;
     Ok(Journal::recall(alloc, &mut host, last))

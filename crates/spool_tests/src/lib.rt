@@ -1,7 +1,7 @@
 //! Tests of the files of a spool and of the store; a compaction stopped at each host call.
 //!
-//! What is proved of every crash stands in the crates of the calls; crashes of a submission, of a removal and of a
-//! turn, and what folders show, stand as scenarios.
+//! What is proved of every crash is in the crates of the calls; crashes of a submission, of a removal and of a
+//! turn, and what directories show, stand as scenarios.
 #![tactic(auto)]
 
 #[cfg(test)]
@@ -9,7 +9,7 @@ mod calls;
 #[cfg(test)]
 mod crashed_journals;
 #[cfg(test)]
-mod folders;
+mod directories;
 #[cfg(test)]
 mod headers;
 #[cfg(test)]

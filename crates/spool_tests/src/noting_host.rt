@@ -6,7 +6,7 @@ use host_calls::{Child, Ending, EnterFault, Host, HostFault, Name, StartFault};
 use memory_host::MemoryHost;
 use std::alloc::{AllocError, Global};
 
-// A host in memory, how often a file of a job was read, and the most bytes that one read asked for.
+// A host in memory, how often a file of a job was read, and the most bytes that one read requested.
 #[derive(Drop)]
 pub(crate) struct NotingHost {
     pub(crate) host: MemoryHost,

@@ -3,7 +3,7 @@ ghost use Rattle.std.specs.Prelude.{IfOk};
 ghost use Rattle.host_calls.specs.Session.{IsInside, IsOutside, StaysInside};
 ghost use Rattle.memory_host.specs.Host.{memory_session};
 
-use crate::folders::name;
+use crate::directories::name;
 use host_calls::{Host, HostFault};
 use memory_host::{Files, MemoryHost, Plan};
 use sequence_file::sequence_name;
@@ -13,7 +13,7 @@ use whole_file::{content, place, temporary_name};
 
 const PICKS: [u64; 4] = [0, 1, 255, u64::MAX];
 
-// A folder whose last number is 1, where no call gets through from the fuse on.
+// A directory whose last number is 1, where no call gets through from the fuse on.
 fn spool(alloc: Global, fuse: u64) -> Result<MemoryHost, Fail>
     ensures { IfOk result (λ host. IsOutside (memory_session host)) }
 {

@@ -1,6 +1,6 @@
 //! The sequence file, by the table of its format.
 use crate::calls::draw_next;
-use crate::folders::{name, session};
+use crate::directories::{name, session};
 use sequence_file::{SequenceFault, last};
 use std::alloc::Global;
 use std::test::Fail;

@@ -1,5 +1,5 @@
-//! Small folders, by the table or the damage that a recovery finds.
-use crate::folders::session;
+//! Small directories, by the table or the damage that a recovery finds.
+use crate::directories::session;
 use host_calls::Ending;
 use spool_model::{Fate, State};
 use spool_store::{Store, StoreFault};
@@ -17,7 +17,7 @@ const LONG: &str = "#!/bin/sh\n# at user=abcdefghijklmnopqrstuvwxyzabcdefg mail=
 
 const STARTED: &str = "+S00000001a-000000000067748580.\n";
 
-// What a recovery of a folder with these files gives, where this number was drawn last.
+// What a recovery of a directory with these files gives, where this number was drawn last.
 fn recovered(
     alloc: Global,
     last: &str,

@@ -8,13 +8,13 @@ use Rattle.start_journal.specs.declared.mark.Mark.{Mark}
 use Rattle.start_journal.specs.declared.mark.Mark.TheVariants.{Removed, Started, Ended, Interrupted, Forgotten, Batch}
 use Rattle.start_journal.specs.JournalLaws.{SlotsGiveTheirMarks}
 use Rattle.start_journal.specs.SlotBytes.{are_same_fields, can_write, fields_in, has_form, mark_in, mark_saying}
-use Rattle.hex_digits.specs.Values.{are_digits}
-use Rattle.clock_range.specs.ClockRange.{is_clock_second}
-use Rattle.clock_range.proofs.RangeLemmas.{second_is, second_tested}
+use Rattle.text_reader.specs.HexValues.{are_digits}
+use Rattle.host_calls.specs.ClockRange.{is_clock_second}
+use Rattle.host_calls.proofs.ClockRangeLemmas.{second_is, second_tested}
 use Rattle.start_journal.specs.Slots.{IsWritable, SpellsFields, SpellsMark, fields_of, mark_with}
 use Rattle.std.proofs.lemmas.Bool.{and_from, and_parts, eqb-true}
 use Rattle.start_journal.proofs.SlotLemmas.{mark_again, one_fields}
-use Rattle.hex_digits.proofs.ValueLemmas.{spelled_digits, digits_spell}
+use Rattle.text_reader.proofs.ValueLemmas.{spelled_digits, digits_spell}
 
 one_at_least : (number : ℕ) → 1 ≤ number → nat_le 1 number ≡ true
 one_at_least number some = grind (arith, nat_tests)

@@ -3,10 +3,10 @@ use Rattle.std.proofs.Common.{◌≡◌, ℕ, ◌+◌, ◌-◌, ◌<◌, ◌≤�
 use Rattle.std.specs.Prelude.{slice_index}
 use Rattle.std.proofs.Math.ListN.{get_or-append}
 use Rattle.std.proofs.lemmas.List.{drop-drop, get_or-append_right, get_or-drop, length-append, length-drop, length-take, length-take-le, take-append-drop}
-use Rattle.host_calls.specs.Folder.{overwritten}
+use Rattle.host_calls.specs.Directory.{overwritten}
 
 module _ (old : List ℕ) (offset : ℕ) (part : List ℕ) (within : offset + length part ≤ length old) where
-  -- what stands before the range is as long as its offset, and what stands before its end too
+  -- what is before the range is as long as its offset, and what is before its end too
   prefix_long : length (take offset old) ≡ offset
   prefix_long = length-take-le offset old (omega arith)
 

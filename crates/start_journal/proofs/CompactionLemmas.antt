@@ -8,9 +8,9 @@ use Rattle.start_journal.specs.declared.mark.Mark.TheVariants.{Removed, Started,
 use Rattle.start_journal.specs.declared.stage.Stage.{Stage}
 use Rattle.start_journal.specs.declared.stage.Stage.TheVariants.{Fresh, Open, Closed, Gone}
 use Rattle.start_journal.specs.Marks.{AreLegalMarks, is_forgetting, is_forgotten, marks_of, is_mark_of, number_of_mark}
-use Rattle.start_journal.specs.Stages.{GoThrough, allows, stage_after}
+use Rattle.start_journal.specs.Stages.{AreAllowedFrom, allows, stage_after}
 use Rattle.start_journal.specs.Compaction.{gone_count, is_gone, wants_compaction}
-use Rattle.start_journal.specs.inside.Keeping.{forgets_one}
+use Rattle.start_journal.specs.inside.ForgottenNumbers.{forgets_one}
 use Rattle.start_journal.proofs.LifeLemmas.{numbers_live_once}
 use Rattle.start_journal.proofs.MarkLemmas.{and_false}
 
@@ -46,18 +46,18 @@ takes_one number Gone (Interrupted other) named allowed = let impossible : false
 takes_one number Gone (Forgotten other) named allowed = let impossible : false ≡ true = allowed in cc
 
 -- so the marks of a number are few
-few_left : (number : ℕ) (stage : Stage) (marks : List Mark) → GoThrough stage (marks_of number marks) → length (marks_of number marks) ≤ left stage
+few_left : (number : ℕ) (stage : Stage) (marks : List Mark) → AreAllowedFrom stage (marks_of number marks) → length (marks_of number marks) ≤ left stage
 few_left number stage [] goes = omega arith
 few_left number stage (mark ∷ later) goes = by_name (λ (next : Stage) through. few_left number next later through) (is_mark_of number mark) refl where
-  by_name : ((next : Stage) → GoThrough next (marks_of number later) → length (marks_of number later) ≤ left next) → (named : Bool) → is_mark_of number mark ≡ named → length (marks_of number (mark ∷ later)) ≤ left stage
+  by_name : ((next : Stage) → AreAllowedFrom next (marks_of number later) → length (marks_of number later) ≤ left next) → (named : Bool) → is_mark_of number mark ≡ named → length (marks_of number (mark ∷ later)) ≤ left stage
   by_name few true is =
-      let through : GoThrough stage (mark ∷ marks_of number later) = subst (λ b. GoThrough stage (cond b (mark ∷ marks_of number later) (marks_of number later))) is goes in
+      let through : AreAllowedFrom stage (mark ∷ marks_of number later) = subst (λ b. AreAllowedFrom stage (cond b (mark ∷ marks_of number later) (marks_of number later))) is goes in
       let rest : length (marks_of number later) ≤ left (stage_after stage mark) = few (stage_after stage mark) through.1 in
       let one : left (stage_after stage mark) < left stage = takes_one number stage mark is through.0 in
       subst (λ b. length (cond b (mark ∷ marks_of number later) (marks_of number later)) ≤ left stage) (sym is) (omega arith)
   by_name few false is =
       subst (λ b. length (cond b (mark ∷ marks_of number later) (marks_of number later)) ≤ left stage) (sym is)
-      (few stage (subst (λ b. GoThrough stage (cond b (mark ∷ marks_of number later) (marks_of number later))) is goes))
+      (few stage (subst (λ b. AreAllowedFrom stage (cond b (mark ∷ marks_of number later) (marks_of number later))) is goes))
 
 three_at_most : (number : ℕ) (marks : List Mark) → AreLegalMarks marks → count_by (is_mark_of number) marks ≤ 3
 three_at_most number marks legal = omega (arith, length-filter (is_mark_of number) marks, few_left number Fresh marks (numbers_live_once marks legal number))

@@ -90,7 +90,7 @@ legal_more before [] mark legal more = (subst (λ list. IsLegalAfter list mark) 
 legal_more before (first ∷ later) mark legal more =
     (legal.0, legal_more (before ++ first ∷ []) later mark legal.1 (subst (λ list. IsLegalAfter list mark) (sym (append_assoc before (first ∷ []) later)) more))
 
--- a mark more names a number where it does
+-- another mark names a number where it does
 pub named_more : (number : ℕ) (marks : List Mark) (mark : Mark) → has_mark_of number (marks ++ mark ∷ []) ≡ true → (has_mark_of number marks ≡ true) ⊎ (is_mark_of number mark ≡ true)
 named_more number marks mark is = elim (or_cases _ _ (sym (list_any-append (is_mark_of number) marks (mark ∷ [])) ∙ is)) [
   | inl before ↦ inl before

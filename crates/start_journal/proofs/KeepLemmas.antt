@@ -10,13 +10,13 @@ use Rattle.start_journal.specs.declared.mark.Mark.TheVariants.{Removed, Started,
 use Rattle.start_journal.specs.Journals.{are_sound}
 use Rattle.start_journal.specs.Marks.{batch_mark, batch_second, first_of_two, is_forgetting, is_forgotten, is_kept, kept_marks, last_batch}
 use Rattle.start_journal.specs.SlotBytes.{can_write}
-use Rattle.clock_range.specs.ClockRange.{is_clock_second}
+use Rattle.host_calls.specs.ClockRange.{is_clock_second}
 use Rattle.std.proofs.lemmas.Bool.{and_from, and_parts}
 use Rattle.start_journal.proofs.LifeLemmas.{any_more}
 use Rattle.start_journal.proofs.MarkLemmas.{kept_marks_are_legal}
 use Rattle.start_journal.proofs.ReadLemmas.{legal_tests, sound_is, sound_legal, sound_tested}
 
--- the last batch start of a list and one mark more
+-- the last batch start of a list and one more mark
 pub last_more : (marks : List Mark) (mark : Mark) → last_batch (marks ++ mark ∷ []) ≡ first_of_two (batch_second mark) (last_batch marks)
 last_more [] mark = refl_none (batch_second mark) where
   refl_none : (found : Option ℤ) → first_of_two None found ≡ first_of_two found None
@@ -39,7 +39,7 @@ pass_more marks place other found last answer inside here before is =
     ∙ sym (ap last_batch (take_more marks place other inside) ∙ last_more (take place marks) (get_or marks place other)
     ∙ ap (λ one. first_of_two one (last_batch (take place marks))) (sym here) ∙ ap (first_of_two found) (sym before))
 
--- the forgotten numbers of a list and one mark more
+-- the forgotten numbers of a list and one more mark
 pub forgotten_pass : (number : ℕ) (marks : List Mark) (place : ℕ) (other : Mark) (old new : Bool) → place < length marks → old ≡ is_forgotten number (take place marks) → new ≡ (old || is_forgetting number (get_or marks place other)) → new ≡ is_forgotten number (take (place + 1) marks)
 forgotten_pass number marks place other old new inside before is =
     is ∙ ap (λ b. b || is_forgetting number (get_or marks place other)) before

@@ -12,11 +12,11 @@ use Rattle.start_journal.specs.declared.stage.Stage.TheVariants.{Fresh, Open, Cl
 use Rattle.start_journal.specs.Journals.{is_legal_after}
 use Rattle.start_journal.specs.Laws.{NumbersLiveOnce}
 use Rattle.start_journal.specs.Marks.{AreLegalMarks, AreLegalMarksAfter, IsLegalAfter, decides, is_end_of, is_forgetting, is_decided, is_ended, is_forgotten, has_mark_of, has_start_of, marks_of, is_mark_of, number_of_mark, is_start_of}
-use Rattle.start_journal.specs.Stages.{GoThrough, allows, stage_after, stage_by}
+use Rattle.start_journal.specs.Stages.{AreAllowedFrom, allows, stage_after, stage_by}
 use Rattle.start_journal.proofs.JournalLemmas.{legal_tested}
 use Rattle.start_journal.proofs.MarkLemmas.{and_false, decides_names, ends_names, forgets_names, forgotten_was_decided, or_false, or_true, starts_names}
 
--- a test over one mark more
+-- a test over one more mark
 pub any_more : (test : Mark → Bool) (before : List Mark) (mark : Mark) → list_any test (before ++ mark ∷ []) ≡ (list_any test before || test mark)
 any_more test before mark = list_any-append test before (mark ∷ []) ∙ ap (λ b. list_any test before || b) (or_false (test mark))
 
@@ -235,17 +235,17 @@ stage_same number before mark other =
     ∙ ap (λ b. stage_by (is_forgotten number before) (is_decided number before) b) (any_other number (is_start_of number) before mark (starts_names number) other)
 
 -- the marks after others go on from its stage
-goes_on : (number : ℕ) (before later : List Mark) → AreLegalMarks before → AreLegalMarksAfter before later → GoThrough (stage_at number before) (marks_of number later)
+goes_on : (number : ℕ) (before later : List Mark) → AreLegalMarks before → AreLegalMarksAfter before later → AreAllowedFrom (stage_at number before) (marks_of number later)
 goes_on number before [] so_far legal = tt
 goes_on number before (mark ∷ later) so_far legal =
     by_name (is_mark_of number mark) refl (goes_on number (before ++ mark ∷ []) later (legal_longer [] before mark so_far legal.0) legal.1) where
-      by_name : (named : Bool) → is_mark_of number mark ≡ named → GoThrough (stage_at number (before ++ mark ∷ [])) (marks_of number later) → GoThrough (stage_at number before) (marks_of number (mark ∷ later))
+      by_name : (named : Bool) → is_mark_of number mark ≡ named → AreAllowedFrom (stage_at number (before ++ mark ∷ [])) (marks_of number later) → AreAllowedFrom (stage_at number before) (marks_of number (mark ∷ later))
       by_name true named rest =
           let may : IsTrue (allows (stage_at number before) mark) = allowed_legal number before mark named so_far ∙ legal_tested before mark legal.0 in
           let next = stage_more number before mark ∙ next_by number mark (is_forgotten number before) (is_decided number before) (has_start_of number before) named may in
-          let whole : GoThrough (stage_at number before) (mark ∷ marks_of number later) = (may, subst (λ at. GoThrough at (marks_of number later)) next rest) in
+          let whole : AreAllowedFrom (stage_at number before) (mark ∷ marks_of number later) = (may, subst (λ at. AreAllowedFrom at (marks_of number later)) next rest) in
           rw named whole
-      by_name false other rest = rw other (subst (λ at. GoThrough at (marks_of number later)) (stage_same number before mark other) rest)
+      by_name false other rest = rw other (subst (λ at. AreAllowedFrom at (marks_of number later)) (stage_same number before mark other) rest)
 
 pub numbers_live_once : NumbersLiveOnce
 numbers_live_once marks legal number = goes_on number [] marks tt legal

@@ -19,7 +19,7 @@ use Rattle.start_journal.specs.declared.lifecycles.Lifecycle.{Lifecycle}
 use Rattle.start_journal.specs.Lifecycles.{decided_of, life_under, unknown}
 use Rattle.start_journal.specs.declared.life_map.LifeMap.TheInside.{Inside}
 use Rattle.start_journal.specs.inside.LifeMaps.{IsLifeMap, lives_of, lives_by_number}
-use Rattle.start_journal.specs.inside.Told.{told_at, told_in}
+use Rattle.start_journal.specs.inside.LivesOf.{life_at, life_of}
 use Rattle.spool_model.specs.declared.decided.Decided.{Decided}
 use Rattle.start_journal.proofs.LifecycleLemmas.{or_nothing}
 
@@ -131,7 +131,7 @@ numbered_next first zero (life ∷ later) other inside = ap (λ n. (n, life) ∷
 numbered_next first (suc place) (life ∷ later) other inside =
     ap (λ (rest : List (ℕ × Lifecycle)). (first, life) ∷ rest) (numbered_next (suc first) place later other (omega (arith, inside)) ∙ ap (λ n. lives_by_number (suc first) (take place later) ++ (n, get_or later place other) ∷ []) (omega (arith)))
 
--- and so one number more, if its fate is remembered
+-- and so one more number, if its fate is remembered
 pub decided_next : (first place : ℕ) (entries : List (ℕ × Lifecycle)) (row : List Lifecycle) (other : Lifecycle) (old new : List Decided) → place < length row
     → old ≡ filter_map decided_of (entries ++ lives_by_number first (take place row)) → new ≡ old ++ filter_map decided_of ((first + place, get_or row place other) ∷ [])
     → new ≡ filter_map decided_of (entries ++ lives_by_number first (take (place + 1) row))
@@ -175,7 +175,7 @@ told_of false life found = refl
 pub told_below : (number first : ℕ) (life : Lifecycle) (old new : List (ℕ × Lifecycle)) (row : List Lifecycle) → number < first
     → All (λ key. key < first) (keys_of old) → All (λ key. key < first) (keys_of new)
     → ((key : ℕ) → life_under new key ≡ cond (is_at (nat_cmp number) key) (Some life) (life_under old key))
-    → (other : ℕ) → told_in (new ++ lives_by_number first row) other ≡ (if other == number then life else told_in (old ++ lives_by_number first row) other)
+    → (other : ℕ) → life_of (new ++ lives_by_number first row) other ≡ (if other == number then life else life_of (old ++ lives_by_number first row) other)
 told_below number first life old new row below olds news puts other = elim (cases_lt other first) [
   | inl low ↦
       ap (λ o. unwrap_or o unknown) (found_below other first new row low ∙ puts other)
@@ -190,8 +190,8 @@ told_below number first life old new row below olds news puts other = elim (case
 -- a life that is put in the row
 pub told_in_row : (number first : ℕ) (life : Lifecycle) (entries : List (ℕ × Lifecycle)) (old new : List Lifecycle) → first ≤ number
     → All (λ key. key < first) (keys_of entries)
-    → ((place : ℕ) → told_at new place ≡ (if place == number - first then life else told_at old place))
-    → (other : ℕ) → told_in (entries ++ lives_by_number first new) other ≡ (if other == number then life else told_in (entries ++ lives_by_number first old) other)
+    → ((place : ℕ) → life_at new place ≡ (if place == number - first then life else life_at old place))
+    → (other : ℕ) → life_of (entries ++ lives_by_number first new) other ≡ (if other == number then life else life_of (entries ++ lives_by_number first old) other)
 told_in_row number first life entries old new from below puts other = elim (cases_lt other first) [
   | inl low ↦
       told_apart number other life _ _ (λ same. omega (arith, from, low, same))
@@ -199,7 +199,7 @@ told_in_row number first life entries old new from below puts other = elim (case
   | inr high ↦
       ap (λ o. unwrap_or o unknown) (found_at other first (other - first) entries new below (omega (arith, high)))
       ∙ unwrap_or-slice_get new (other - first) unknown ∙ puts (other - first)
-      ∙ ap (λ b. if b then life else told_at old (other - first)) (same_place high)
+      ∙ ap (λ b. if b then life else life_at old (other - first)) (same_place high)
       ∙ ap (λ l. if other == number then life else l)
       (sym (ap (λ o. unwrap_or o unknown) (found_at other first (other - first) entries old below (omega (arith, high))) ∙ unwrap_or-slice_get old (other - first) unknown))
 ] where

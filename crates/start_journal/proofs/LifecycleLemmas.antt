@@ -1,4 +1,4 @@
--- What marks tell of a number, by their tests, and with one mark more.
+-- What marks tell of a number, by their tests, and with one more mark.
 use Rattle.std.proofs.Common.{◌≡◌, ℕ, Bool, true, false, cond, List, Option, Some, None, [], ◌∷◌, ◌++◌, sym, ap, subst, ◌∙◌, refl}
 use Rattle.std.specs.Prelude.{◌==◌, ◌||◌, is_some}
 use Rattle.std.specs.Option.{option_or}
@@ -12,7 +12,7 @@ use Rattle.start_journal.specs.Marks.{IsLegalAfter, decides, is_forgetting, is_d
 use Rattle.start_journal.specs.Stages.{allows, stage_by}
 use Rattle.start_journal.proofs.LifeLemmas.{allowed_legal, any_more, legal_longer, named_is}
 
--- One mark more.
+-- One more mark.
 
 pub or_nothing : {X : Type 0} → (one : Option X) → option_or one None ≡ one
 or_nothing (Some x) = refl
@@ -71,7 +71,7 @@ decides_given number (Started other queue second) = refl
 decides_given number (Forgotten other) = refl
 decides_given number (Batch second) = refl
 
--- a number is decided where it has a fate
+-- a number is finished where it has a fate
 pub decided_has_fate : (number : ℕ) (marks : List Mark) → is_decided number marks ≡ is_some (fate_at number marks)
 decided_has_fate number [] = refl
 decided_has_fate number (mark ∷ later) =

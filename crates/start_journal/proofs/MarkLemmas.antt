@@ -96,7 +96,7 @@ legal_with_batch before (mark ∷ later) last legal = (legal.0, legal_with_batch
 pub kept_marks_are_legal : KeptMarksAreLegal
 kept_marks_are_legal marks legal = legal_with_batch [] (filter (is_kept marks) marks) (last_batch marks) (legal_filtered marks [] marks legal)
 
--- the mark of the last batch start tells nothing of a number
+-- the mark of the last batch start exposes nothing of a number
 silent_batch : (number : ℕ) (test : Mark → Bool) (last : Option ℤ) → ((mark : Mark) → test mark ≡ true → is_mark_of number mark ≡ true) → list_any test (batch_mark last) ≡ false
 silent_batch number test None of_number = refl
 silent_batch number test (Some second) of_number = by_test (test (Batch second)) refl where
@@ -176,7 +176,7 @@ batch_kept : (marks : List Mark) (last : Option ℤ) → last_batch marks ≡ la
 batch_kept marks (Some second) is = batch_at_end (filter (is_kept marks) marks) second
 batch_kept marks None is = ap last_batch (append-nil (filter (is_kept marks) marks)) ∙ none_filtered marks marks is
 
--- a number that is forgotten was decided, so it is not open
+-- a number that is forgotten was finished, so it is not open
 open_kept : (marks : List Mark) (number : ℕ) (forgotten : Bool) → AreLegalMarks marks → is_forgotten number marks ≡ forgotten → is_open number (kept_marks marks) ≡ is_open number marks
 open_kept marks number true legal is =
     ap (λ b. b && not (is_decided number (kept_marks marks))) (test_gone marks number (is_start_of number) (starts_names number) is)

@@ -1,21 +1,21 @@
--- A mark that is added to the journal of a folder: what a crash leaves after each of the two writes.
+-- A mark that is added to the journal of a directory: what a crash leaves after each of the two writes.
 use Rattle.std.proofs.Common.{◌≡◌, ℕ, ◌+◌, ◌*◌, ◌≤◌, true, false, List, length, take, drop, sym, ap, subst, ◌∙◌, inl, inr, arith, get_or-take}
 use Rattle.std.specs.Prelude.{Option, Some, IsSomeAnd, option_map, slice_index}
 use Rattle.std.specs.FinMap as map
 use Rattle.std.proofs.lemmas.Bool.Decides.{eqb_tells}
 use Rattle.std.proofs.lemmas.List.{length-take-le}
 use Rattle.std.proofs.lemmas.Slice.Eq.{bytes_eq-Decides}
-use Rattle.host_calls.specs.Folder.{Files, Folder, IsImage, overwritten, reading_of}
+use Rattle.host_calls.specs.Directory.{Files, Directory, IsImage, overwritten, reading_of}
 use Rattle.host_calls.specs.World.{IsWithinFile, World}
 use Rattle.whole_file.specs.Others.{ChangesFiles, IsEither, LeavesOthers}
 use Rattle.whole_file.specs.Temporary.{temporary_file}
 use Rattle.whole_file.proofs.ChangesJoined.{changes_on, changes_weaker}
 use Rattle.start_journal.specs.declared.mark.Mark.{Mark}
-use Rattle.start_journal.specs.Changing.{GivesReadJournal, HoldsJournal, IsChanged, IsChanging, added}
+use Rattle.start_journal.specs.JournalChange.{GivesReadJournal, HoldsJournal, IsChanged, IsChanging, added}
 use Rattle.start_journal.specs.Journals.{JournalRead, journal_file}
 use Rattle.start_journal.specs.Marks.{IsLegalAfter}
 use Rattle.start_journal.specs.Slots.{SpellsMark}
-use Rattle.start_journal.specs.inside.Overwriting.{IsOverwriting, IsOverwritten}
+use Rattle.start_journal.specs.inside.Overwrite.{IsOverwriting, IsOverwritten}
 use Rattle.start_journal.proofs.ByteRanges.{over_long}
 use Rattle.start_journal.proofs.SlotWrites.{HasBytes, closed_gives, half_gives, has_bytes, open_gives, rest_long}
 
@@ -24,12 +24,12 @@ temporary_apart : ¬ (temporary_file ≡ journal_file)
 temporary_apart same = let impossible : true ≡ false = sym ((bytes_eq-Decides temporary_file journal_file).1 same) in cc
 
 -- one file was left alone, and then it was again
-through : (name : List ℕ) (start middle : Folder) (image : Files) → ((from : Files) → IsImage middle from → LeavesOthers (λ other. other ≡ name) start from) → LeavesOthers (λ other. other ≡ name) middle image → LeavesOthers (λ other. other ≡ name) start image
+through : (name : List ℕ) (start middle : Directory) (image : Files) → ((from : Files) → IsImage middle from → LeavesOthers (λ other. other ≡ name) start from) → LeavesOthers (λ other. other ≡ name) middle image → LeavesOthers (λ other. other ≡ name) start image
 through name start middle image before alone =
     let first : LeavesOthers (λ other. other ≡ name) start alone.from = before alone.from alone.was in
     record { from = first.from; was = first.was; others = λ other apart. alone.others other apart ∙ first.others other apart }
 
-module _ (name : List ℕ) (journal : JournalRead) (mark : Mark) (slot : List ℕ) (offset : ℕ) (start : Folder) (is_name : name ≡ journal_file) (free : 1 ≤ journal.free) (legal : IsLegalAfter journal.marks mark) (spelled : SpellsMark slot mark) (at : offset ≡ 32 * length journal.marks) (holds : HoldsJournal journal start) where
+module _ (name : List ℕ) (journal : JournalRead) (mark : Mark) (slot : List ℕ) (offset : ℕ) (start : Directory) (is_name : name ≡ journal_file) (free : 1 ≤ journal.free) (legal : IsLegalAfter journal.marks mark) (spelled : SpellsMark slot mark) (at : offset ≡ 32 * length journal.marks) (holds : HoldsJournal journal start) where
   gives_there : GivesReadJournal (map.get (reading_of start) name) journal
   gives_there = subst (λ at_name. GivesReadJournal (map.get (reading_of start) at_name) journal) (sym is_name) holds.gives
 
@@ -73,7 +73,7 @@ module _ (name : List ℕ) (journal : JournalRead) (mark : Mark) (slot : List �
   half_files old new changes = changes_weaker _ _ old new half_changing changes
 
   -- once it is
-  module _ (middle : Folder) (half : IsOverwritten name (offset + 1) rest start middle) where
+  module _ (middle : Directory) (half : IsOverwritten name (offset + 1) rest start middle) where
     reads_half : map.get (reading_of middle) name ≡ Some (overwritten held.bytes (32 * length journal.marks + 1) rest)
     reads_half = half.written ∙ ap (option_map (λ bytes. overwritten bytes (offset + 1) rest)) held.is ∙ ap (λ n. Some (overwritten held.bytes (n + 1) rest)) at
 
@@ -115,11 +115,11 @@ module _ (name : List ℕ) (journal : JournalRead) (mark : Mark) (slot : List �
     gate_files old between new first second = changes_on _ _ _ old between new half_changing gate_changing first second
 
     -- and once it is
-    pub is_added : (new : Folder) → IsOverwritten name offset gate middle new → IsChanged (added journal mark) start new
+    pub is_added : (new : Directory) → IsOverwritten name offset gate middle new → IsChanged (added journal mark) start new
     is_added new whole = record {
       holds = record {
-        certain = whole.certain.certain;
-        same = λ image is. ap (map.get image) (sym is_name) ∙ whole.certain.same image is ∙ ap (map.get (reading_of new)) is_name;
+        durable = whole.durable.durable;
+        same = λ image is. ap (map.get image) (sym is_name) ∙ whole.durable.same image is ∙ ap (map.get (reading_of new)) is_name;
         gives = opened (map.get (reading_of new) journal_file) gate gate_long
             (get_or-take 1 slot 0 0 (omega arith) ∙ spelled.fields.gate) (ap (map.get (reading_of new)) (sym is_name) ∙ whole.written);
         no_temp = λ image is.

@@ -3,7 +3,7 @@ use Rattle.std.proofs.Common.{◌≡◌, ◌⊎◌, ℕ, suc, ◌+◌, ◌-◌, 
 use Rattle.std.specs.Prelude.{◌&&◌, ◌||◌, MatchBool, slice_index, nat_lt}
 use Rattle.std.proofs.lemmas.Bool.Decides.{leb_tells}
 use Rattle.std.proofs.lemmas.List.{ext_get_or, get_or-drop, length-drop, length-take-le}
-use Rattle.host_calls.specs.Folder.{Body, IsSameElsewhere, MayHold, is_within, overwritten, written_body}
+use Rattle.host_calls.specs.Directory.{Body, IsSameElsewhere, MayHold, is_within, overwritten, written_body}
 use Rattle.start_journal.proofs.ByteRanges.{over_before, over_after, over_inside, over_long}
 
 -- a place lies in a range
@@ -29,7 +29,7 @@ in_or_out offset count place = elim (leb_tells offset place) [
 abbrev pub IsSteady : Body → Type 0
 IsSteady body = (bytes : List ℕ) → MayHold body bytes → bytes ≡ body.bytes
 
--- what stands after a write in place of a steady body: its own bytes, but for the range
+-- what is after a write in place of a steady body: its own bytes, but for the range
 pub record IsOver (offset count : ℕ) (old found : List ℕ) : Type 0 where
   pub part : List ℕ
   pub as_long : length part ≡ count
@@ -60,11 +60,11 @@ module _ (body : Body) (offset : ℕ) (bytes : List ℕ) (within : offset + leng
       let inside : offset + length own ≤ length found = omega (arith, own_long, as_long) in
       let same : IsSameElsewhere body (overwritten found offset own) = record {
         counted = over_long found offset own inside ∙ as_long;
-        certain = λ place certain. elim (in_or_out offset (length bytes) place) [
+        durable = λ place durable. elim (in_or_out offset (length bytes) place) [
           | inl here ↦ over_inside found offset own inside place here.from (omega (arith, here.to, own_long)) ∙ index_range body.bytes place here.from here.to
           | inr out ↦
               let kept : slice_index found place ≡ slice_index (overwritten body.bytes offset bytes) place =
-              holds.certain place (ap (λ b. b || is_within offset (length bytes) place) certain ∙ out.test) in
+              holds.durable place (ap (λ b. b || is_within offset (length bytes) place) durable ∙ out.test) in
               elim out.apart [
                 | inl before ↦ over_before found offset own inside place before ∙ kept ∙ over_before body.bytes offset bytes within place before
                 | inr after ↦ over_after found offset own inside place (omega (arith, after, own_long)) ∙ kept ∙ over_after body.bytes offset bytes within place after

@@ -3,12 +3,12 @@ use Rattle.std.proofs.Common.{◌≡◌, ◌⊎◌, ℕ, suc, ◌+◌, ◌-◌, 
 use Rattle.std.specs.Prelude.{unsigned_abs, ◌==◌, ◌&&◌, ◌||◌, nat_le, nat_lt, if◌then◌else◌}
 use Rattle.std.proofs.Math.Nat.{eq-or-lt_of_le}
 use Rattle.std.proofs.lemmas.Bool.Decides.{nat_tests}
-use Rattle.hex_digits.specs.Digits.{SpellsNumber}
-use Rattle.hex_digits.proofs.DigitLemmas.{power_of_two}
+use Rattle.text_reader.specs.HexDigits.{SpellsNumber}
+use Rattle.text_reader.proofs.DigitLemmas.{power_of_two}
 use Rattle.start_journal.specs.SlotBytes.{is_number_prefix, is_second_prefix, may_stand, right_prefix, standing_from}
-use Rattle.hex_digits.specs.Values.{are_digits, are_zeros, value_of_digits}
-use Rattle.hex_digits.proofs.ValueLemmas.{digits_spell, spelled_digits, value_spelled}
-use Rattle.clock_range.specs.declared.range.TheConstants.{LAST_SECOND}
+use Rattle.text_reader.specs.HexValues.{are_digits, are_zeros, value_of_digits}
+use Rattle.text_reader.proofs.ValueLemmas.{digits_spell, spelled_digits, value_spelled}
+use Rattle.host_calls.specs.declared.clock_seconds.TheConstants.{LAST_SECOND}
 
 -- bytes that spell no number are not all digits
 not_digits : (bytes : List ℕ) → ((number : ℕ) → ¬ (SpellsNumber bytes number)) → are_digits bytes ≡ false
@@ -52,7 +52,7 @@ pub no_second_begun : (kind : ℕ) (digits : List ℕ) → ((kind ≡ 83 → ⊥
 no_second_begun kind digits either none =
     sym (second_kind kind digits either ∙ ap (λ b. b && nat_le (value_of_digits digits) (unsigned_abs LAST_SECOND / 16 ^ (16 - length digits))) (not_digits digits none))
 
--- the first bytes may stand in their places, and the next one may not
+-- the first bytes may be in their places, and the next one may not
 standing : (slot : List ℕ) (count place : ℕ) (later : List ℕ) → place ≤ count → count ≤ place + length later → ((at : ℕ) → at < count → may_stand slot at ≡ true) → (count < place + length later → may_stand slot count ≡ false) → standing_from slot place later ≡ count
 standing slot count place [] from to each next = let same : place ≡ count = omega arith in same
 standing slot count place (byte ∷ later) from to each next = elim (eq-or-lt_of_le from) [

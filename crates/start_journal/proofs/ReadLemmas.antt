@@ -46,7 +46,7 @@ pub refused : (last : ℕ) (read : JournalRead) (slot : List ℕ) (mark : Mark) 
 refused last read slot mark gate free spelled wrong =
     mark_read last read slot mark gate free spelled ∙ ap (λ b. if b then Ok (with_slot read (Some mark)) else Err 0) wrong
 
--- what is sound so far, and with one mark more
+-- what is sound so far, and with one more mark
 pub record IsSound (marks : List Mark) : Type 0 where
   pub legal : are_legal_after [] marks ≡ true
   pub writable : list_all can_write marks ≡ true
@@ -191,7 +191,7 @@ all_after last place slots read after past = after ∙ at_drop_all (all_slots la
 pub end_sound : (last place : ℕ) (slots : List (List ℕ)) (read : JournalRead) → IsAfter last slots place read → length slots ≤ place → are_sound read.marks ≡ true
 end_sound last place slots read after past = read_sound last read slots (all_after last place slots read after past)
 
--- what stands after the last slot
+-- what is after the last slot
 end_of : (last place : ℕ) (bytes : List ℕ) (slots : List (List ℕ)) (read : JournalRead) → slots ≡ first_chunks 32 (length bytes / 32) bytes → IsAfter last slots place read → length slots ≤ place → journal_in last (Some bytes) ≡ whole_journal bytes (Ok read)
 unfolding journal_in
 end_of last place bytes slots read cut after past =
@@ -213,7 +213,7 @@ pub absent_read : (last : ℕ) (held : Option (List ℕ)) (marks : List Mark) �
 unfolding journal_in
 absent_read last held marks absent none = ap (journal_in last) absent ∙ ap (λ list. Ok (record { marks = list; free = 0 })) (sym none)
 
--- a journal with one mark more
+-- a journal with one more mark
 pub added_sound : (marks more : List Mark) (mark : Mark) → are_sound marks ≡ true → IsLegalAfter marks mark → IsWritable mark → more ≡ marks ++ mark ∷ [] → are_sound more ≡ true
 added_sound marks more mark sound legal writable is =
     ap are_sound is ∙ sound_tested (marks ++ mark ∷ []) (sound_more marks mark (sound_is marks sound) (legal_tested marks mark legal) (writable_tested mark writable))

@@ -9,14 +9,14 @@ use Rattle.std.proofs.lemmas.List.{drop-append-le, length-take, length-take-le, 
 use Rattle.std.proofs.lemmas.Nat.{le-div}
 use Rattle.start_journal.specs.JournalLaws.{RightPrefixesAreLongest}
 use Rattle.start_journal.specs.SlotBytes.{HasSlotPrefix, is_number_prefix, is_second_prefix, is_ending_of, is_kind, is_queue_of, is_status_of, may_stand, right_prefix, standing_from}
-use Rattle.hex_digits.specs.Values.{are_digits, are_zeros, is_digit, value_of_digits}
+use Rattle.text_reader.specs.HexValues.{are_digits, are_zeros, is_digit, value_of_digits}
 use Rattle.std.proofs.lemmas.Bool.{and_from, and_parts, eqb-true}
-use Rattle.hex_digits.proofs.TestLemmas.{one_passes}
+use Rattle.text_reader.proofs.TestLemmas.{one_passes}
 use Rattle.start_journal.proofs.MarkLemmas.{or_true}
-use Rattle.start_journal.proofs.StandLemmas.{after_place, from_place, if_true, same_stand, spelled_stands}
-use Rattle.hex_digits.proofs.ValueLemmas.{value_last, some_power}
+use Rattle.start_journal.proofs.StandLemmas.{after_place, from_place, if_true, same_stand, spelled_holds}
+use Rattle.text_reader.proofs.ValueLemmas.{value_last, some_power}
 use Rattle.start_journal.proofs.WholeLemmas.{parts_of, all_spelled, SpellsSome, AllStand}
-use Rattle.clock_range.specs.declared.range.TheConstants.{LAST_SECOND}
+use Rattle.host_calls.specs.declared.clock_seconds.TheConstants.{LAST_SECOND}
 
 -- a byte that may stand after the others
 next_byte : List ℕ → ℕ
@@ -55,7 +55,7 @@ second_part slot place from to =
     if_no (place == 0) _ _ (not_place place 0 (omega arith)) ∙ if_no (place == 1) _ _ (not_place place 1 (omega arith)) ∙ if_no (nat_lt place 10) _ _ (not_before place 10 (omega arith))
     ∙ if_no (place == 10) _ _ (not_place place 10 (omega arith)) ∙ if_no (place == 11) _ _ (not_place place 11 (omega arith)) ∙ if_no (nat_lt place 14) _ _ (not_before place 14 from) ∙ if_yes (nat_lt place 30) _ _ (before_place place 30 to)
 
--- one digit more of a number
+-- one more digit of a number
 number_next : (kind : ℕ) (digits : List ℕ) → (digits ≡ []) ⊎ (is_number_prefix kind digits ≡ true) → is_number_prefix kind (digits ++ (if kind == 66 then 48 else 49) ∷ []) ≡ true
 number_next kind digits before = by_kind (kind == 66) refl where
   zeros_before : (kind == 66) ≡ true → are_zeros digits ≡ true
@@ -76,7 +76,7 @@ number_next kind digits before = by_kind (kind == 66) refl where
       ∙ and_from (are_digits (digits ++ 49 ∷ [])) _ (one_passes is_digit digits 49 (digits_before other) refl)
       (ap (λ b. nat_lt (length (digits ++ 49 ∷ [])) 8 || b) some ∙ or_true (nat_lt (length (digits ++ 49 ∷ [])) 8))
 
--- one digit more of a second
+-- one more digit of a second
 second_next : (kind : ℕ) (digits : List ℕ) → length digits < 16 → (digits ≡ []) ⊎ (is_second_prefix kind digits ≡ true) → is_second_prefix kind (digits ++ 48 ∷ []) ≡ true
 second_next kind digits few before = by_kind (kind == 83 || kind == 66) refl where
   test : List ℕ → Bool
@@ -173,9 +173,9 @@ status_next ending = by_ending (ending == 120 || ending == 115) refl where
   by_ending true counted = if_yes (ending == 120 || ending == 115) _ _ counted
   by_ending false other = if_no (ending == 120 || ending == 115) _ _ other
 
-next_stands : (slot : List ℕ) → AllStand slot → length slot < 32 → may_stand (longer slot) (length slot) ≡ true
+next_holds : (slot : List ℕ) → AllStand slot → length slot < 32 → may_stand (longer slot) (length slot) ≡ true
 unfolding may_stand next_byte
-next_stands slot each inside =
+next_holds slot each inside =
     let place : ℕ = length slot in
     let more : List ℕ = longer slot in
     if_true (place == 0) _ _ (λ is.
@@ -230,7 +230,7 @@ unfolding longer
 all_next slot each few place inside =
     let counted : length (slot ++ next_byte slot ∷ []) ≡ length slot + 1 = length-append slot (next_byte slot ∷ []) in
     elim (eq-or-lt_of_le (let at_most : place ≤ length slot = omega arith in at_most)) [
-      | inl last ↦ ap (may_stand (longer slot)) last ∙ next_stands slot each few
+      | inl last ↦ ap (may_stand (longer slot)) last ∙ next_holds slot each few
       | inr before ↦ same_stand (slot ++ next_byte slot ∷ []) slot place (take-append-le (place + 1) slot (next_byte slot ∷ []) (omega arith)) ∙ each place before
     ]
 
@@ -264,15 +264,15 @@ record Counts (slot : List ℕ) (count end : ℕ) : Type 0 where
 counts_from : (slot : List ℕ) (place : ℕ) (later : List ℕ) → ((at : ℕ) → at < place → may_stand slot at ≡ true) → Counts slot (standing_from slot place later) (place + length later)
 counts_from slot place [] each = record { inside = omega arith; each = each; next = λ inside. absurd (omega arith) }
 counts_from slot place (byte ∷ later) each = by_test (may_stand slot place) refl (λ here. counts_from slot (suc place) later (λ at before. here at before)) where
-  by_test : (stands : Bool) → may_stand slot place ≡ stands → (((at : ℕ) → at < suc place → may_stand slot at ≡ true) → Counts slot (standing_from slot (suc place) later) (suc place + length later)) → Counts slot (standing_from slot place (byte ∷ later)) (place + suc (length later))
-  by_test true stands rest =
-      let before : (at : ℕ) → at < place + 1 → may_stand slot at ≡ true = below_more (λ at. may_stand slot at ≡ true) place each stands in
+  by_test : (holds : Bool) → may_stand slot place ≡ holds → (((at : ℕ) → at < suc place → may_stand slot at ≡ true) → Counts slot (standing_from slot (suc place) later) (suc place + length later)) → Counts slot (standing_from slot place (byte ∷ later)) (place + suc (length later))
+  by_test true holds rest =
+      let before : (at : ℕ) → at < place + 1 → may_stand slot at ≡ true = below_more (λ at. may_stand slot at ≡ true) place each holds in
       let counts : Counts slot (standing_from slot (suc place) later) (suc place + length later) = rest (λ at inside. before at (omega arith)) in
       let same : suc place + length later ≡ place + suc (length later) = omega arith in
-      subst (λ count. Counts slot count (place + suc (length later))) (sym (if_yes (may_stand slot place) (standing_from slot (suc place) later) place stands)) (subst (Counts slot (standing_from slot (suc place) later)) same counts)
-  by_test false stands rest =
-      subst (λ count. Counts slot count (place + suc (length later))) (sym (if_no (may_stand slot place) (standing_from slot (suc place) later) place stands))
-      (record { inside = omega arith; each = each; next = λ inside. stands })
+      subst (λ count. Counts slot count (place + suc (length later))) (sym (if_yes (may_stand slot place) (standing_from slot (suc place) later) place holds)) (subst (Counts slot (standing_from slot (suc place) later)) same counts)
+  by_test false holds rest =
+      subst (λ count. Counts slot count (place + suc (length later))) (sym (if_no (may_stand slot place) (standing_from slot (suc place) later) place holds))
+      (record { inside = omega arith; each = each; next = λ inside. holds })
 
 prefix_counts : (slot : List ℕ) → Counts slot (right_prefix slot) (length slot)
 unfolding right_prefix
@@ -311,7 +311,7 @@ no_more slot count more counts prefix = by_test (nat_le more count) refl where
       let long : more ≤ 32 = omega (arith, prefix.spelled.fields.counted, ap length prefix.prefix, length-take more prefix.right, length-take more slot) in
       let same : take (count + 1) prefix.right ≡ take (count + 1) slot =
       sym (take-take (count + 1) more prefix.right (omega arith)) ∙ ap (take (count + 1)) prefix.prefix ∙ take-take (count + 1) more slot (omega arith) in
-      let impossible : true ≡ false = sym (spelled_stands prefix.right prefix.mark count prefix.spelled (omega arith)) ∙ same_stand prefix.right slot count same ∙ counts.next (omega arith) in
+      let impossible : true ≡ false = sym (spelled_holds prefix.right prefix.mark count prefix.spelled (omega arith)) ∙ same_stand prefix.right slot count same ∙ counts.next (omega arith) in
       cc
 
 pub right_prefixes_are_longest : RightPrefixesAreLongest

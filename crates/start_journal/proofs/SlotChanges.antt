@@ -5,7 +5,7 @@ use Rattle.std.proofs.lemmas.Bool.{cases_order}
 use Rattle.std.proofs.lemmas.Option.{slice_get_within}
 use Rattle.std.proofs.lemmas.List.{ext_get_or, get_or-drop, length-append, length-drop, length-take, length-take-le}
 use Rattle.start_journal.specs.declared.mark.Mark.{Mark}
-use Rattle.start_journal.specs.Changing.{added}
+use Rattle.start_journal.specs.JournalChange.{added}
 use Rattle.start_journal.specs.FirstFault.{IsOpenSlot, IsRightJournal, slot_at}
 use Rattle.start_journal.specs.Journals.{JournalRead, is_drawn}
 use Rattle.start_journal.specs.Marks.{IsLegalAfter}
@@ -26,7 +26,7 @@ differs_then place old middle new first second = record {
   after = λ at late. second.after at late ∙ first.after at late;
 }
 
--- a byte of a slot stands in the journal after the slots before it
+-- a byte of a slot is in the journal after the slots before it
 pub index_slot : (bytes : List ℕ) (place at : ℕ) → at < 32 → slice_index (slot_at bytes place) at ≡ slice_index bytes (32 * place + at)
 index_slot bytes place at inside = get_or-take 32 (drop (32 * place) bytes) at 0 inside ∙ get_or-drop (32 * place) bytes at 0
 

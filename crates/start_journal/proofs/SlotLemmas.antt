@@ -5,16 +5,16 @@ use Rattle.std.proofs.Math.Seq.{take-add}
 use Rattle.std.proofs.lemmas.Bool.Decides.{nat_tests}
 use Rattle.std.proofs.lemmas.Int.{ints}
 use Rattle.std.proofs.lemmas.List.{length-take-le, take_all, take_more}
-use Rattle.hex_digits.specs.Digits.{SpellsNumber}
-use Rattle.hex_digits.proofs.DigitLemmas.{one_number, one_spelling}
+use Rattle.text_reader.specs.HexDigits.{SpellsNumber}
+use Rattle.text_reader.proofs.DigitLemmas.{one_number, one_spelling}
 use Rattle.host_calls.specs.declared.child.Ending.TheVariants.{Exit, Signal, NotStarted}
 use Rattle.start_journal.specs.declared.fields.Fields.{Fields}
 use Rattle.start_journal.specs.declared.mark.Mark.{Mark}
 use Rattle.start_journal.specs.declared.mark.Mark.TheVariants.{Removed, Started, Ended, Interrupted, Forgotten, Batch}
 use Rattle.start_journal.specs.Laws.{MarksHaveOneSlot, SlotsSpellOneMark}
 use Rattle.start_journal.specs.Slots.{IsWritable, SpellsFields, SpellsMark, fields_of, mark_with}
-use Rattle.clock_range.specs.ClockRange.{IsClockSecond}
-use Rattle.clock_range.specs.declared.range.TheConstants.{LAST_SECOND}
+use Rattle.host_calls.specs.ClockRange.{IsClockSecond}
+use Rattle.host_calls.specs.declared.clock_seconds.TheConstants.{LAST_SECOND}
 
 -- a slot has one list of fields
 pub one_fields : (slot : List ℕ) (first second : Fields) → SpellsFields slot first → SpellsFields slot second → first ≡ second

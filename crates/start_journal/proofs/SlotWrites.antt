@@ -5,10 +5,10 @@ use Rattle.std.proofs.lemmas.Bool.{and_from, and_parts}
 use Rattle.std.proofs.lemmas.Bool.Decides.{eqb_tells, nat_tests}
 use Rattle.std.proofs.lemmas.List.{ext_get_or, get_or-drop, length-drop, length-take-le}
 use Rattle.std.proofs.lemmas.List.Folds.{list_all-append}
-use Rattle.host_calls.specs.Folder.{overwritten}
+use Rattle.host_calls.specs.Directory.{overwritten}
 use Rattle.start_journal.specs.declared.mark.Mark.{Mark}
 use Rattle.start_journal.specs.declared.mark.Mark.TheVariants.{Removed, Started, Ended, Interrupted, Forgotten, Batch}
-use Rattle.start_journal.specs.Changing.{GivesReadJournal, added}
+use Rattle.start_journal.specs.JournalChange.{GivesReadJournal, added}
 use Rattle.start_journal.specs.FirstFault.{GivesJournal, IsRightJournal, slot_at}
 use Rattle.start_journal.specs.Journals.{JournalRead, are_drawn, is_drawn}
 use Rattle.start_journal.specs.Marks.{IsLegalAfter}

@@ -1,23 +1,23 @@
--- Each byte of a mark's slot may stand in its place.
+-- Each byte of a mark's slot may be in its place.
 use Rattle.std.proofs.Common.{◌≡◌, ℕ, ◌+◌, ◌-◌, ◌*◌, ◌/◌, ◌^◌, ◌<◌, ◌≤◌, Bool, true, false, List, length, take, drop, min, sym, ap, ◌∙◌, refl, arith, eq-eqb, length-drop, get_or-take}
 use Rattle.std.specs.Prelude.{◌==◌, ◌&&◌, ◌||◌, nat_le, nat_lt, slice_index, slice_range, unsigned_abs, if◌then◌else◌}
 use Rattle.std.proofs.lemmas.Bool.Decides.{nat_tests}
 use Rattle.std.proofs.lemmas.List.{get_or-drop, length-take, length-take-le, take-take, take_all}
 use Rattle.std.proofs.lemmas.Nat.{le-div}
-use Rattle.hex_digits.specs.Digits.{SpellsNumber}
+use Rattle.text_reader.specs.HexDigits.{SpellsNumber}
 use Rattle.host_calls.specs.declared.child.Ending.TheVariants.{Exit, Signal, NotStarted}
 use Rattle.start_journal.specs.declared.fields.Fields.{Fields}
 use Rattle.start_journal.specs.declared.mark.Mark.{Mark}
 use Rattle.start_journal.specs.declared.mark.Mark.TheVariants.{Removed, Started, Ended, Interrupted, Forgotten, Batch}
 use Rattle.start_journal.specs.SlotBytes.{is_number_prefix, is_second_prefix, is_ending_of, is_kind, is_queue_of, is_status_of, may_stand}
-use Rattle.hex_digits.specs.Values.{are_digits, is_digit, value_of_digits}
+use Rattle.text_reader.specs.HexValues.{are_digits, is_digit, value_of_digits}
 use Rattle.start_journal.specs.Slots.{IsWritable, SpellsMark, fields_of}
 use Rattle.std.proofs.lemmas.Bool.{and_from}
-use Rattle.hex_digits.proofs.TestLemmas.{place_of_all, take_passes}
-use Rattle.hex_digits.proofs.ValueLemmas.{spelled_digits, value_spelled, zeros_of, some_power, value_prefix}
+use Rattle.text_reader.proofs.TestLemmas.{place_of_all, take_passes}
+use Rattle.text_reader.proofs.ValueLemmas.{spelled_digits, value_spelled, zeros_of, some_power, value_prefix}
 use Rattle.start_journal.proofs.SlotLemmas.{second_small}
 use Rattle.start_journal.proofs.WriteLemmas.{prefix_index, prefix_range}
-use Rattle.clock_range.specs.declared.range.TheConstants.{LAST_SECOND}
+use Rattle.host_calls.specs.declared.clock_seconds.TheConstants.{LAST_SECOND}
 
 -- choices that are the same under one test
 pub if_same : (b : Bool) (x y other_x other_y : Bool) → (b ≡ true → x ≡ other_x) → (b ≡ false → y ≡ other_y) → (if b then x else y) ≡ (if b then other_x else other_y)
@@ -40,7 +40,7 @@ pub if_true : (b x y : Bool) → (b ≡ true → x ≡ true) → (b ≡ false �
 if_true true x y on off = on refl
 if_true false x y on off = off refl
 
--- a byte may stand by what stands before it and itself
+-- a byte may stand by what is before it and itself
 pub same_stand : (one other : List ℕ) (place : ℕ) → take (place + 1) one ≡ take (place + 1) other → may_stand one place ≡ may_stand other place
 unfolding may_stand
 same_stand one other place same =
@@ -148,9 +148,9 @@ part_long slot from to inside = length-take-le (to - from) (drop from slot) (ome
 pub part_byte : (slot : List ℕ) (from to place : ℕ) → place < to - from → slice_index (slice_range slot from to) place ≡ slice_index slot (from + place)
 part_byte slot from to place inside = get_or-take (to - from) (drop from slot) place 0 inside ∙ get_or-drop from slot place 0
 
-pub spelled_stands : (slot : List ℕ) (mark : Mark) (place : ℕ) → SpellsMark slot mark → place < 32 → may_stand slot place ≡ true
+pub spelled_holds : (slot : List ℕ) (mark : Mark) (place : ℕ) → SpellsMark slot mark → place < 32 → may_stand slot place ≡ true
 unfolding may_stand
-spelled_stands slot mark place spelled inside =
+spelled_holds slot mark place spelled inside =
     let fields : Fields = fields_of mark in
     let counted : length slot ≡ 32 = spelled.fields.counted in
     if_true (place == 0) _ _ (λ is. eq-eqb (slice_index slot 0) 43 spelled.fields.gate) (λ not_0.

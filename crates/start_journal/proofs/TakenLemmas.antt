@@ -42,12 +42,12 @@ legal_taken before (Some mark) = by_test (is_legal_after before mark) refl where
   by_test true legal = legal_is before mark legal
   by_test false legal = tt
 
--- lives with a mark more
+-- lives with another mark
 pub kept_lives : (before : List Mark) (found : Option Mark) (mark : Mark) (new : Lifecycles) → found ≡ Some mark → (IsLegalAfter before mark → TellLifecycles (before ++ mark ∷ []) new) → IfSome found (IsLegalAfter before) → TellLifecycles (with_taken before found) new
 kept_lives before found mark new is more legal =
     subst (λ f. TellLifecycles (with_taken before f) new) (sym is) (more (subst (λ f. IfSome f (IsLegalAfter before)) is legal))
 
--- a mark more whose slot lies within a file
+-- another mark whose slot lies within a file
 pub near_more : (marks new : List TakenMark) (place : ℕ) (mark : Mark) → new ≡ marks ++ record { place = place; mark = mark } ∷ [] → 32 * place + 32 < 2 ^ 64 → All IsSlotWithinFile marks → All IsSlotWithinFile new
 near_more marks new place mark is near all = subst (All IsSlotWithinFile) (sym is) (All-push IsSlotWithinFile marks (record { place = place; mark = mark }) all near)
 

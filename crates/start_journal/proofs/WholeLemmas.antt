@@ -5,21 +5,21 @@ use Rattle.std.specs.Char.{is_ascii_alphabetic}
 use Rattle.std.specs.List.{list_all}
 use Rattle.std.proofs.Math.Nat.{eq-or-lt_of_le}
 use Rattle.std.proofs.lemmas.Bool.Decides.{nat_tests}
-use Rattle.hex_digits.specs.Digits.{SpellsNumber}
+use Rattle.text_reader.specs.HexDigits.{SpellsNumber}
 use Rattle.host_calls.specs.declared.child.Ending.TheVariants.{Exit, Signal, NotStarted}
 use Rattle.start_journal.specs.declared.fields.Fields.{Fields}
 use Rattle.start_journal.specs.declared.mark.Mark.{Mark}
 use Rattle.start_journal.specs.declared.mark.Mark.TheVariants.{Removed, Started, Ended, Interrupted, Forgotten, Batch}
 use Rattle.start_journal.specs.SlotBytes.{is_number_prefix, is_second_prefix, is_ending_of, is_kind, is_queue_of, is_status_of, may_stand}
-use Rattle.hex_digits.specs.Values.{are_digits, are_zeros, is_digit, value_of_digits}
+use Rattle.text_reader.specs.HexValues.{are_digits, are_zeros, is_digit, value_of_digits}
 use Rattle.start_journal.specs.Slots.{SpellsFields, SpellsMark, plain_fields}
-use Rattle.clock_range.specs.ClockRange.{IsClockSecond}
-use Rattle.clock_range.proofs.RangeLemmas.{second_is}
+use Rattle.host_calls.specs.ClockRange.{IsClockSecond}
+use Rattle.host_calls.proofs.ClockRangeLemmas.{second_is}
 use Rattle.std.proofs.lemmas.Bool.{and_parts, eqb-true, or_cases}
-use Rattle.hex_digits.proofs.TestLemmas.{all_by_place}
-use Rattle.hex_digits.proofs.ValueLemmas.{digits_spell, spelled_zero}
+use Rattle.text_reader.proofs.TestLemmas.{all_by_place}
+use Rattle.text_reader.proofs.ValueLemmas.{digits_spell, spelled_zero}
 use Rattle.start_journal.proofs.StandLemmas.{part_long, part_byte}
-use Rattle.clock_range.specs.declared.range.TheConstants.{LAST_SECOND}
+use Rattle.host_calls.specs.declared.clock_seconds.TheConstants.{LAST_SECOND}
 
 -- a slot of which each byte may stand
 abbrev pub AllStand : List ℕ → Type 0

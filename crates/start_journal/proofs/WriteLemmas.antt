@@ -4,10 +4,10 @@ use Rattle.std.proofs.Common.{◌≡◌, ℕ, ◌+◌, ◌<◌, ◌≤◌, ◌^�
 use Rattle.std.specs.Prelude.{slice_index, slice_range}
 use Rattle.std.proofs.lemmas.List.{get_or-set_same, length-set, length-take, length-take-le, take-set-le}
 use Rattle.std.proofs.lemmas.Slice.{between_is, between-put_mid, take-put_mid_below}
-use Rattle.hex_digits.specs.Digits.{SpellsNumber}
+use Rattle.text_reader.specs.HexDigits.{SpellsNumber}
 use Rattle.start_journal.specs.declared.fields.Fields.{Fields}
 use Rattle.start_journal.specs.Slots.{SpellsFields}
-use Rattle.hex_digits.proofs.ValueLemmas.{number_spelled}
+use Rattle.text_reader.proofs.ValueLemmas.{number_spelled}
 
 -- a part that is written over leaves the length
 put_long : (from count : ℕ) (list part : List ℕ) → from + count ≤ length list → length part ≡ count → length (put_mid from count list part) ≡ length list

@@ -1,4 +1,4 @@
--- A journal of which most counts no more (own).
+-- A journal of which most no longer counts (own).
 use Rattle.std.specs.Prelude.{◌*◌, ◌&&◌, ℕ, Bool, false, List, Option, Some, None, count_by, length, nat_le, nat_lt}
 use Rattle.start_journal.specs.declared.mark.Mark.{Mark}
 use Rattle.start_journal.specs.declared.compaction.TheConstants.{COMPACTION_SLOTS}

@@ -70,7 +70,7 @@ pub record JournalRead : Type 0 where
 abbrev pub nothing_read : JournalRead
 nothing_read = record { marks = []; free = 0 }
 
--- one mark more, or one closed slot more
+-- one more mark, or one closed slot more
 abbrev pub with_mark : JournalRead → Mark → JournalRead
 with_mark read mark = record { marks = read.marks ++ mark ∷ []; free = read.free }
 

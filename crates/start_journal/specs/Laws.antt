@@ -4,7 +4,7 @@ use Rattle.start_journal.specs.declared.mark.Mark.{Mark}
 use Rattle.start_journal.specs.declared.stage.Stage.TheVariants.{Fresh}
 use Rattle.start_journal.specs.Marks.{AreLegalMarks, is_forgotten, has_mark_of, is_open, is_remembered, kept_marks, last_batch, marks_of}
 use Rattle.start_journal.specs.Slots.{SpellsMark}
-use Rattle.start_journal.specs.Stages.{GoThrough}
+use Rattle.start_journal.specs.Stages.{AreAllowedFrom}
 
 -- a slot spells one mark
 abbrev pub SlotsSpellOneMark : Type 0
@@ -16,7 +16,7 @@ MarksHaveOneSlot = (first second : List ℕ) (mark : Mark) → SpellsMark first 
 
 -- Each number lives once: its marks go through its stages, and none comes twice.
 abbrev pub NumbersLiveOnce : Type 0
-NumbersLiveOnce = (marks : List Mark) → AreLegalMarks marks → (number : ℕ) → GoThrough Fresh (marks_of number marks)
+NumbersLiveOnce = (marks : List Mark) → AreLegalMarks marks → (number : ℕ) → AreAllowedFrom Fresh (marks_of number marks)
 
 -- the kept marks are legal
 abbrev pub KeptMarksAreLegal : Type 0

@@ -1,4 +1,4 @@
-pub mod Changing
+pub mod JournalChange
 pub mod DamageLaws
 pub mod FirstFault
 pub mod JournalFaults

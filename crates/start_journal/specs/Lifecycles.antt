@@ -37,7 +37,7 @@ lifecycle_at number marks = record {
   forgotten = is_forgotten number marks;
 }
 
--- a life, with what one mark more tells of its number
+-- a life, with what one more mark tells of its number
 abbrev pub lifecycle_with : ℕ → Mark → Lifecycle → Lifecycle
 lifecycle_with number mark life = record {
   started = option_or life.started (start_second number mark);
@@ -53,7 +53,7 @@ unknown = record { started = None; fate = None; forgotten = false }
 abbrev pub stage_of : Lifecycle → Stage
 stage_of life = stage_by life.forgotten (is_some life.fate) (is_some life.started)
 
--- the life that stands under the number, if one does
+-- the life that is under the number, if one does
 abbrev pub life_under : List (ℕ × Lifecycle) → ℕ → Option Lifecycle
 life_under lives number = lookup (is_at (nat_cmp number)) lives
 

@@ -86,11 +86,11 @@ AreLegalMarks marks = AreLegalMarksAfter [] marks
 abbrev pub marks_of : ℕ → List Mark → List Mark
 marks_of number marks = filter (is_mark_of number) marks
 
--- the number is started and not decided
+-- the number is started and not finished
 abbrev pub is_open : ℕ → List Mark → Bool
 is_open number marks = has_start_of number marks && not (is_decided number marks)
 
--- the number is decided, and not forgotten
+-- the number is finished, and not forgotten
 abbrev pub is_remembered : ℕ → List Mark → Bool
 is_remembered number marks = is_decided number marks && not (is_forgotten number marks)
 

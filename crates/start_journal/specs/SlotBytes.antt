@@ -5,9 +5,9 @@ use Rattle.start_journal.specs.declared.fields.Fields.{Fields}
 use Rattle.start_journal.specs.declared.mark.Mark.{Mark}
 use Rattle.start_journal.specs.declared.mark.Mark.TheVariants.{Removed, Started, Ended, Interrupted, Forgotten, Batch}
 use Rattle.start_journal.specs.Slots.{SpellsMark, fields_of, mark_with}
-use Rattle.clock_range.specs.declared.range.TheConstants.{LAST_SECOND}
-use Rattle.hex_digits.specs.Values.{is_digit, value_of_digits, are_digits, are_zeros}
-use Rattle.clock_range.specs.ClockRange.{is_clock_second}
+use Rattle.host_calls.specs.declared.clock_seconds.TheConstants.{LAST_SECOND}
+use Rattle.text_reader.specs.HexValues.{is_digit, value_of_digits, are_digits, are_zeros}
+use Rattle.host_calls.specs.ClockRange.{is_clock_second}
 
 -- 32 bytes have the form of a slot whose gate is open
 abbrev pub has_form : List ℕ → Bool

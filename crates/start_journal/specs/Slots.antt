@@ -3,12 +3,12 @@ use Rattle.std.specs.Prelude.{◌≡◌, ◌≤◌, ◌==◌, ℕ, ℤ, pos, Lis
 use Rattle.std.specs.Char.{is_ascii_alphabetic}
 use Rattle.host_calls.specs.declared.child.Ending.{Ending}
 use Rattle.host_calls.specs.declared.child.Ending.TheVariants.{Exit, Signal, NotStarted}
-use Rattle.hex_digits.specs.Digits.{SpellsNumber}
+use Rattle.text_reader.specs.HexDigits.{SpellsNumber}
 use Rattle.start_journal.specs.declared.fields.Fields.{Fields}
 use Rattle.start_journal.specs.declared.mark.Mark.{Mark}
 use Rattle.start_journal.specs.declared.mark.Mark.TheVariants.{Removed, Started, Ended, Interrupted, Forgotten, Batch}
-use Rattle.clock_range.specs.declared.range.TheConstants.{LAST_SECOND}
-use Rattle.clock_range.specs.ClockRange.{IsClockSecond}
+use Rattle.host_calls.specs.declared.clock_seconds.TheConstants.{LAST_SECOND}
+use Rattle.host_calls.specs.ClockRange.{IsClockSecond}
 
 -- what a Started mark needs: the number of a job, the letter of a queue, and a second
 pub record IsStart (number queue : ℕ) (second : ℤ) : Type 0 where

@@ -25,9 +25,9 @@ stage_after stage (Forgotten number) = Gone
 stage_after stage (Batch second) = stage
 
 -- the marks go through the stages of one number, from this one on
-abbrev pub GoThrough : Stage → List Mark → Type 0
-GoThrough stage [] = Unit {0}
-GoThrough stage (mark ∷ later) = IsTrue (allows stage mark) × GoThrough (stage_after stage mark) later
+abbrev pub AreAllowedFrom : Stage → List Mark → Type 0
+AreAllowedFrom stage [] = Unit {0}
+AreAllowedFrom stage (mark ∷ later) = IsTrue (allows stage mark) × AreAllowedFrom (stage_after stage mark) later
 
 -- the stage of a number that is forgotten, decided or started, or none of these
 abbrev pub stage_by : Bool → Bool → Bool → Stage

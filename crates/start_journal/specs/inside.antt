@@ -1,4 +1,4 @@
 pub mod LifeMaps
-pub mod Keeping
-pub mod Overwriting
-pub mod Told
+pub mod ForgottenNumbers
+pub mod Overwrite
+pub mod LivesOf

@@ -1,9 +1,9 @@
 //! Adding a mark, and compacting the journal.
 ghost use Rattle.std.specs.Prelude.{◌≡◌, ◌≤◌, ◌+◌, ◌*◌, ◌^◌, [], IfOk, IsTrue, OnOk, length};
-ghost use Rattle.host_calls.specs.Folder.{IsInNoImage};
+ghost use Rattle.host_calls.specs.Directory.{IsInNoImage};
 ghost use Rattle.host_calls.specs.Session.{CallsInside, IsInside};
 ghost use Rattle.whole_file.specs.Others.{ChangesFiles};
-ghost use Rattle.start_journal.specs.Changing.{HoldsJournal, IsChanged, IsChanging, IsReplacing, added, compacted};
+ghost use Rattle.start_journal.specs.JournalChange.{HoldsJournal, IsChanged, IsChanging, IsReplacing, added, compacted};
 ghost use Rattle.whole_file.specs.Temporary.{temporary_file};
 ghost use Rattle.start_journal.specs.Marks.{IsLegalAfter};
 ghost use Rattle.start_journal.specs.Slots.{IsWritable};
@@ -22,20 +22,20 @@ use whole_file::{place, temporary_name};
 const FREE_SLOTS: u64 = 256;
 
 impl Journal {
-    /// Adds the mark. Once it is added it stands in every image. A fault consumes the journal.
+    /// Adds the mark. Once it is added it is in every image. A fault consumes the journal.
     pub fn add<H: Host>(self, alloc: Global, host: &mut H, mark: Mark) -> Result<Journal, HostFault>
         requires inside { IsInside (H.session host.old) }
         requires free { 1 ≤ self.free }
         requires writable { IsWritable mark }
         requires legal { IsLegalAfter self.marks mark }
-        requires holds { IsTrue H.tells → HoldsJournal self (H.world host.old).now.folder }
+        requires holds { IsTrue H.tells → HoldsJournal self (H.world host.old).now.directory }
         ensures inside { CallsInside HostFault.Failed (H.session host.old) (H.session host.new) result }
         ensures journal { IfOk result (λ journal. journal ≡ added self mark) }
         ensures files { IsTrue H.tells
-            → ChangesFiles (IsChanging self (added self mark) (H.world host.old).now.folder)
+            → ChangesFiles (IsChanging self (added self mark) (H.world host.old).now.directory)
             (H.world host.old) (H.world host.new) }
         ensures added { IsTrue H.tells → OnOk result (IsChanged (added self mark)
-            (H.world host.old).now.folder (H.world host.new).now.folder) }
+            (H.world host.old).now.directory (H.world host.new).now.directory) }
     {
         let name = journal_name();
         let offset = self.first_free();
@@ -43,22 +43,22 @@ impl Journal {
         let slot = mark_text(&mark);
         // While its gate is closed, a slot counts for nothing: a crash leaves it free, whatever its bytes are.
         overwrite(alloc, host, &name, offset + 1, &slot[1..])?;
-        // The other bytes are certain now: a gate that opens over others could show a mark that nobody made.
+        // The other bytes are durable now: a gate that opens over others could show a mark that nobody made.
         overwrite(alloc, host, &name, offset, &slot[..1])?;
         Ok(journal)
     }
 
-    /// Drops what counts no more, and makes free slots. A fault consumes the journal.
+    /// Drops what no longer counts, and makes free slots. A fault consumes the journal.
     pub fn compact<H: Host>(self, alloc: Global, host: &mut H) -> Result<Journal, HostFault>
         requires inside { IsInside (H.session host.old) }
-        requires holds { IsTrue H.tells → HoldsJournal self (H.world host.old).now.folder }
+        requires holds { IsTrue H.tells → HoldsJournal self (H.world host.old).now.directory }
         ensures inside { CallsInside HostFault.Failed (H.session host.old) (H.session host.new) result }
         ensures journal { IfOk result (λ journal. journal ≡ compacted self) }
         ensures files { IsTrue H.tells
-            → ChangesFiles (IsChanging self (compacted self) (H.world host.old).now.folder)
+            → ChangesFiles (IsChanging self (compacted self) (H.world host.old).now.directory)
             (H.world host.old) (H.world host.new) }
         ensures compacted { IsTrue H.tells → OnOk result (IsChanged (compacted self)
-            (H.world host.old).now.folder (H.world host.new).now.folder) }
+            (H.world host.old).now.directory (H.world host.new).now.directory) }
     {
         let journal = self.kept(alloc)?;
         journal.replace(alloc, host)?;
@@ -98,16 +98,16 @@ impl Journal {
         })
     }
 
-    // Puts this journal in place of the one that the folder has.
+    // Puts this journal in place of the one that the directory has.
     fn replace<H: Host>(&self, alloc: Global, host: &mut H) -> Result<(), HostFault>
         requires inside { IsInside (H.session host.old) }
-        requires no_temp { IsTrue H.tells → IsInNoImage (H.world host.old).now.folder temporary_file }
+        requires no_temp { IsTrue H.tells → IsInNoImage (H.world host.old).now.directory temporary_file }
         ensures inside { CallsInside HostFault.Failed (H.session host.old) (H.session host.new) result }
         ensures files { IsTrue H.tells
-            → ChangesFiles (IsReplacing self.now (H.world host.old).now.folder)
+            → ChangesFiles (IsReplacing self.now (H.world host.old).now.directory)
             (H.world host.old) (H.world host.new) }
         ensures replaced { IsTrue H.tells → OnOk result (IsChanged self.now
-            (H.world host.old).now.folder (H.world host.new).now.folder) }
+            (H.world host.old).now.directory (H.world host.new).now.directory) }
     {
         let text = journal_text(alloc, self.marks.as_slice(), self.free)?;
         place(

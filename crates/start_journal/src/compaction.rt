@@ -1,7 +1,7 @@
-//! Whether most of a journal counts no more.
+//! Whether most of a journal no longer counts.
 ghost use Rattle.std.specs.Prelude.{◌≡◌, IfOk, count_by};
 ghost use Rattle.start_journal.specs.Compaction.{gone_count, wants_compaction};
-ghost use Rattle.start_journal.specs.inside.Keeping.{forgets_one, is_among};
+ghost use Rattle.start_journal.specs.inside.ForgottenNumbers.{forgets_one, is_among};
 ghost use Rattle.start_journal.specs.Marks.{number_of_mark};
 
 use crate::kept_marks::forgotten;

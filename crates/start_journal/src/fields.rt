@@ -4,10 +4,9 @@ ghost use Rattle.start_journal.specs.Slots.{IsWritable, ending_byte, ending_stat
 
 use crate::Mark;
 use crate::slot::SLOT;
-use clock_range::{LAST_SECOND, is_clock_second};
-use host_calls::Ending;
+use host_calls::{Ending, LAST_SECOND, is_clock_second};
 
-/// What stands in the fields of a slot, whether or not some mark has these.
+/// What is in the fields of a slot, whether or not some mark has these.
 #[derive(Clone, Copy, Debug, PartialEq, Eq)]
 pub struct Fields {
     pub kind: u8,
@@ -100,11 +99,11 @@ impl Fields {
     {
         slot[0] = b'+';
         slot[1] = self.kind;
-        hex_digits::write_hex(&mut slot[2..10], self.number as u64);
+        text_reader::write_hex(&mut slot[2..10], self.number as u64);
         slot[10] = self.queue;
         slot[11] = self.ending;
-        hex_digits::write_hex(&mut slot[12..14], self.status as u64);
-        hex_digits::write_hex(&mut slot[14..30], self.second);
+        text_reader::write_hex(&mut slot[12..14], self.status as u64);
+        text_reader::write_hex(&mut slot[14..30], self.second);
         slot[30] = b'.';
         slot[31] = b'\n';
     }
@@ -117,9 +116,9 @@ impl Fields {
         if slot[0] != b'+' || slot[30] != b'.' || slot[31] != b'\n' {
             return None;
         }
-        let number = hex_digits::read_hex(&slot[2..10])?;
-        let status = hex_digits::read_hex(&slot[12..14])?;
-        let second = hex_digits::read_hex(&slot[14..30])?;
+        let number = text_reader::read_hex(&slot[2..10])?;
+        let status = text_reader::read_hex(&slot[12..14])?;
+        let second = text_reader::read_hex(&slot[14..30])?;
         Some(Fields {
             kind: slot[1],
             number: number as u32,

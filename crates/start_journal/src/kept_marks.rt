@@ -1,7 +1,7 @@
 //! What a compaction keeps of the marks.
 ghost use Rattle.std.specs.Prelude.{◌≡◌, ◌||◌, ℕ, IfOk, OnOk};
 ghost use Rattle.std.specs.List.{filter};
-ghost use Rattle.start_journal.specs.inside.Keeping.{AreForgotten, has_gone_number, is_kept_beside};
+ghost use Rattle.start_journal.specs.inside.ForgottenNumbers.{AreForgotten, has_gone_number, is_kept_beside};
 ghost use Rattle.start_journal.specs.Marks.{batch_second, is_forgetting, is_kept, kept_marks, last_batch};
 
 use crate::Mark;

@@ -6,7 +6,7 @@ ghost use Rattle.std.specs.Map.{keys_of};
 ghost use Rattle.std.specs.Option.{option_copied};
 ghost use Rattle.std.specs.Ordering.{nat_cmp};
 ghost use Rattle.start_journal.specs.Lifecycles.{decided_of, life_under};
-ghost use Rattle.start_journal.specs.inside.Told.{told_at, told_in};
+ghost use Rattle.start_journal.specs.inside.LivesOf.{life_at, life_of};
 
 use crate::Lifecycle;
 use crate::lifecycles::decided_of;
@@ -62,7 +62,7 @@ impl LifeMap {
     // Puts the life under the number.
     pub(crate) fn put(&mut self, number: u32, life: Lifecycle) -> Result<(), AllocError>
         ensures { OnOk result ((other : ℕ)
-            → told_in self.new other ≡ (if other == number then life else told_in self.old other)) }
+            → life_of self.new other ≡ (if other == number then life else life_of self.old other)) }
     {
         if number < self.first {
             self.below.insert(number, life)?;
@@ -89,11 +89,11 @@ impl LifeMap {
 fn put_in_row(row: &mut Vec<Lifecycle>, place: usize, life: Lifecycle) -> Result<(), AllocError>
     requires small { place < 2 ^ 32 }
     ensures told { OnOk result ((other : ℕ)
-        → told_at row.new.items other ≡ (if other == place then life else told_at row.old.items other)) }
+        → life_at row.new.items other ≡ (if other == place then life else life_at row.old.items other)) }
     ensures few { (most : ℕ) → place < most → length row.old.items ≤ most → length row.new.items ≤ most }
 {
     if row.as_slice().len() <= place {
-        row.resize(place + 1, Lifecycle::UNTOLD)?;
+        row.resize(place + 1, Lifecycle::UNMODELLED)?;
     }
     row[place] = life;
     Ok(())

@@ -25,7 +25,7 @@ pub struct Lifecycle {
 
 impl Lifecycle {
     /// Nothing is told.
-    pub(crate) const UNTOLD: Lifecycle = Lifecycle {
+    pub(crate) const UNMODELLED: Lifecycle = Lifecycle {
         started: None,
         fate: None,
         forgotten: false,
@@ -83,14 +83,14 @@ impl Lifecycles {
         }
     }
 
-    /// What is told of the number.
+    /// What is known of the number.
     pub fn get(&self, number: u32) -> Lifecycle
         ensures { result ≡ lifecycle_in self.now number }
     {
         self.by_number
             .get(number)
             .copied()
-            .unwrap_or(Lifecycle::UNTOLD)
+            .unwrap_or(Lifecycle::UNMODELLED)
     }
 
     /// The numbers whose fate is remembered, in their order.
@@ -121,7 +121,7 @@ impl Lifecycles {
         }
     }
 
-    // Puts what one mark more tells to what is told.
+    // Puts what one more mark tells to what is told.
     pub(crate) fn add(&mut self, mark: Mark) -> Result<(), AllocError>
         ensures { OnOk result ((number : ℕ)
             → lifecycle_in self.new number ≡ lifecycle_with number mark (lifecycle_in self.old number)) }

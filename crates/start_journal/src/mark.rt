@@ -7,7 +7,7 @@ use host_calls::Ending;
 /// What became of a number, or when a batch job was started last.
 #[derive(Clone, Copy, Debug, PartialEq, Eq)]
 pub enum Mark {
-    /// The pending job was taken back.
+    /// The pending job was removed.
     Removed(u32),
     /// The job of this queue was started at this second.
     Started { number: u32, queue: u8, second: i64 },

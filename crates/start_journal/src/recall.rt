@@ -19,7 +19,7 @@ use std::alloc::{AllocError, Global};
 use whole_file::content;
 
 impl Journal {
-    /// The journal of the folder, where this number was drawn last.
+    /// The journal of the directory, where this number was drawn last.
     pub fn recall<H: Host>(alloc: Global, host: &mut H, last: u32) -> Result<Journal, JournalFault>
         requires { IsInside (H.session host.old) }
         ensures inside { CallsInside JournalFault.Failed (H.session host.old) (H.session host.new) result }
@@ -34,7 +34,7 @@ impl Journal {
         Ok(journal)
     }
 
-    /// The journal of the folder, as `recall` answers it, and what its marks tell of each number.
+    /// The journal of the directory, as `recall` answers it, and what its marks tell of each number.
     pub fn recall_with_lives<H: Host>(
         alloc: Global,
         host: &mut H,

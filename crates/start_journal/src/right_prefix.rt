@@ -1,11 +1,11 @@
 //! How far a slot that spells no mark is like the slot of one.
 ghost use Rattle.std.specs.Prelude.{◌≡◌, ◌≤◌, ◌<◌, length};
 ghost use Rattle.start_journal.specs.SlotBytes.{is_number_prefix, is_second_prefix, is_ending_of, is_kind, is_queue_of, is_status_of, may_stand, right_prefix};
-ghost use Rattle.hex_digits.specs.Values.{are_zeros, is_digit};
+ghost use Rattle.text_reader.specs.HexValues.{are_zeros, is_digit};
 
 use crate::slot::SLOT;
-use clock_range::LAST_SECOND;
-use hex_digits::is_digit;
+use host_calls::LAST_SECOND;
+use text_reader::is_digit;
 
 // How many of the first bytes of the slot some mark's slot has too.
 pub(crate) fn right_prefix(slot: &[u8; SLOT]) -> usize
@@ -53,7 +53,7 @@ fn is_number_prefix(kind: u8, digits: &[u8]) -> bool
     if kind == b'B' {
         return are_zeros(digits);
     }
-    match hex_digits::read_hex(digits) {
+    match text_reader::read_hex(digits) {
         // The number of a job is at least 1.
         Some(number) => digits.len() < 8 || number != 0,
         None => false,
@@ -98,7 +98,7 @@ fn is_second_prefix(kind: u8, digits: &[u8]) -> bool
     if kind != b'S' && kind != b'B' {
         return are_zeros(digits);
     }
-    match hex_digits::read_hex(digits) {
+    match text_reader::read_hex(digits) {
         // The digits that are left can all be zeros.
         Some(prefix) => prefix <= LAST_SECOND as u64 >> (4 * (16 - digits.len())),
         None => false,

@@ -11,7 +11,7 @@ pub enum Stage {
     Fresh,
     /// It was started, and neither ended nor given up.
     Open,
-    /// It is decided: it was removed, has ended or was given up.
+    /// It is finished: it was removed, has ended or was given up.
     Closed,
     /// What became of it is no longer kept.
     Gone,

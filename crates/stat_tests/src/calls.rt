@@ -1,5 +1,5 @@
 //! How many calls of the host a session has: as many as one of `atq`.
-use crate::folders::{Expected, call_by, caller, spool, texts};
+use crate::directories::{Expected, call_by, caller, spool, texts};
 use at_commands::command;
 use memory_host::{ListReadings, MemoryInputs, MemorySink, Plan};
 use std::alloc::Global;

@@ -5,7 +5,7 @@
 #[cfg(test)]
 mod calls;
 #[cfg(test)]
-mod folders;
+mod directories;
 #[cfg(test)]
 mod lines;
 #[cfg(test)]

@@ -1,5 +1,5 @@
 //! Each kind of line.
-use crate::folders::{Expected, answer_of, call};
+use crate::directories::{Expected, answer_of, call};
 use std::test::Fail;
 
 // The words, and what is put.

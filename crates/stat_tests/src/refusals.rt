@@ -1,5 +1,5 @@
 //! Refusals and faults.
-use crate::folders::{Expected, answer_of, call, call_by, folder, spool};
+use crate::directories::{Expected, answer_of, call, call_by, spool, spool_directory};
 use memory_host::Plan;
 use std::test::Fail;
 
@@ -55,7 +55,7 @@ fn stopped(code: u8, err: &'static str) -> Expected {
 fn a_user_whom_the_lists_refuse(rt: HostRuntime) -> Result<(), Fail> {
     let alloc = rt.alloc();
     let expected = stopped(1, "atstat: not allowed\n");
-    let mut host = folder(
+    let mut host = spool_directory(
         alloc,
         &[("at.deny", b"ann\n".as_slice())],
         Plan::quiet(alloc),
@@ -88,7 +88,7 @@ fn the_lock_is_taken(rt: HostRuntime) -> Result<(), Fail> {
 }
 
 #[test]
-fn a_call_on_the_folder_fails(rt: HostRuntime) -> Result<(), Fail> {
+fn a_call_on_the_directory_fails(rt: HostRuntime) -> Result<(), Fail> {
     let alloc = rt.alloc();
     let expected = stopped(2, "atstat: spool fault\n");
     let mut plan = Plan::quiet(alloc);
@@ -129,7 +129,7 @@ const SPOILED: [(&str, &[u8]); 3] = [
 fn a_damaged_spool(rt: HostRuntime) -> Result<(), Fail> {
     let alloc = rt.alloc();
     let expected = stopped(7, "atstat: .JRN damaged at 32\n");
-    let mut host = folder(alloc, &SPOILED, Plan::quiet(alloc))?;
+    let mut host = spool_directory(alloc, &SPOILED, Plan::quiet(alloc))?;
     let answered = call_by(alloc, "ann", &["atstat", "2"], &mut host, None, &expected)?;
     drop(host);
     assert_eq!(rt; answered, answer_of(&expected));

@@ -1,5 +1,5 @@
 //! The exit status where a job is waited for that is done.
-use crate::folders::{Expected, answer_of, call};
+use crate::directories::{Expected, answer_of, call};
 use std::test::Fail;
 
 // The words, the exit status, and what is put.

@@ -1,5 +1,5 @@
 //! The wait for jobs that live on.
-use crate::folders::{Expected, answer_of, call, call_by, spool};
+use crate::directories::{Expected, answer_of, call, call_by, spool};
 use memory_host::Plan;
 use std::alloc::Global;
 use std::test::Fail;

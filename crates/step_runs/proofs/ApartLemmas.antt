@@ -24,7 +24,7 @@ same_default [] count one other below = absurd (omega arith)
 same_default (first ∷ items) zero one other below = refl
 same_default (first ∷ items) (suc count) one other below = same_default items count one other (omega arith)
 
--- what holds of all is what holds of each that is there
+-- what holds of all is what holds of each that exists
 pub all_each : {X : Type 0} (P : X → Type 0) (xs : List X) → All P xs → (x : X) → Has xs x → P x
 all_each P xs all x has = let is : Contains xs x = contained xs x has in subst P is.2 (all is.0 x is.1)
 
@@ -49,7 +49,7 @@ pairs_cons R x xs head tail (suc i) (suc j) d before within = tail i j d (omega 
 pub pairs_nil : {X : Type 0} (R : X → X → Type 0) → AllPairs R []
 pairs_nil R i j d before within = absurd (omega arith)
 
--- no number stands twice
+-- no number occurs twice
 abbrev pub Apart : List ℕ → Type 0
 Apart [] = Unit {0}
 Apart (number ∷ later) = (Has later number → ⊥) × Apart later

@@ -1,6 +1,6 @@
 -- Steps that were cut off within a call that makes more than one.
 use Rattle.std.proofs.Common.{◌≡◌, List, ◌++◌, append_assoc, sym, ap, subst, ◌∙◌}
-use Rattle.host_calls.specs.Folder.{Files}
+use Rattle.host_calls.specs.Directory.{Files}
 use Rattle.spool_model.specs.declared.step.Step.{Step}
 use Rattle.spool_model.specs.JobTable.{JobTable}
 use Rattle.spool_model.specs.Steps.{AreLegal, after_steps}

@@ -44,7 +44,7 @@ lacks_then table first later given more before lacks = record {
   hands = hands_then table first lacks.earlier given more before lacks.hands;
 }
 
--- what was handed over by now, after steps that have handed over all
+-- what was started by now, after steps that have started all
 pub by_now_then : (table : JobTable) (first later : List Step) (given more : List Handed) → Hands table first given →
     HandsByNow (after_steps table first) later more → HandsByNow table (first ++ later) (given ++ more)
 by_now_then table first later given more before by_now = elim by_now [
@@ -52,7 +52,7 @@ by_now_then table first later given more before by_now = elim by_now [
   | inr lacks ↦ inr (lacks_then table first later given more before lacks)
 ]
 
--- a prefix of steps that start nothing hands over nothing
+-- a prefix of steps that start nothing starts nothing
 pub quiet_prefix : (table : JobTable) (prefix after : List Step) → StartNothing (prefix ++ after) → Hands table prefix []
 quiet_prefix table [] after quiet = refl
 quiet_prefix table (Draw ∷ others) after quiet = ([], [], refl, quiet_prefix (after_step table Draw) others after quiet, refl)
@@ -63,7 +63,7 @@ quiet_prefix table (End number ending ∷ others) after quiet = ([], [], refl, q
 quiet_prefix table (Interrupt number ∷ others) after quiet = ([], [], refl, quiet_prefix (after_step table (Interrupt number)) others after quiet, refl)
 quiet_prefix table (Forget number ∷ others) after quiet = ([], [], refl, quiet_prefix (after_step table (Forget number)) others after quiet, refl)
 
--- one step has handed over nothing, or is a start whose script is wanting
+-- one step has started nothing, or is a start whose script is wanting
 pub one_by_now : (table : JobTable) (step : Step) → HandsByNow table (step ∷ []) []
 one_by_now table Draw = inl ([], [], refl, refl, refl)
 one_by_now table (Accept number job) = inl ([], [], refl, refl, refl)

@@ -2,7 +2,7 @@
 use Rattle.std.proofs.Common.{◌≡◌, ◌⊎◌, List, [], ◌∷◌, ◌++◌, append_assoc, append-nil, sym, ap, subst, ◌∙◌, refl, inl, inr, arith}
 use Rattle.host_calls.specs.declared.child.Asked.{Asked}
 use Rattle.host_calls.specs.declared.child.Handed.{Handed}
-use Rattle.host_calls.specs.Folder.{Files}
+use Rattle.host_calls.specs.Directory.{Files}
 use Rattle.host_calls.specs.World.{World}
 use Rattle.host_calls.proofs.WorldLemmas.{leaves_none, leaves_then, leaves_weaker}
 use Rattle.spool_model.specs.declared.step.Step.{Step}
@@ -20,7 +20,7 @@ use Rattle.step_runs.proofs.AttemptLemmas.{runs_after_recoveries}
 use Rattle.step_runs.proofs.HandsLemmas.{hands_then, quiet_prefix, steps_then}
 use Rattle.step_runs.proofs.RunLemmas.{along_none, calls_are_runs, one_step_is_a_run, runs_go_on, runs_go_through}
 
--- What was handed over by each moment.
+-- What was started by each moment.
 
 pub prefixes_none : (old new : World) → new ≡ old → HandsPrefixes old new
 prefixes_none old new same = leaves_none _ old new same
@@ -32,7 +32,7 @@ prefixes_then start middle end more before after grown =
     (leaves_weaker _ _ start middle (λ image handed is. (is.0 ++ more, grown ∙ ap (λ (l : List Handed). l ++ more) is.1 ∙ append_assoc handed is.0 more)) before)
     after
 
--- a call that hands nothing over
+-- a call that starts nothing
 pub prefixes_changed : (P : Files → Type 0) (old new : World) → ChangesFiles P old new → HandsPrefixes old new
 prefixes_changed P old new changes =
     leaves_weaker _ _ old new (λ image handed is. ([], changes.handed ∙ sym is.1 ∙ sym (append-nil handed))) changes.leaves
@@ -64,7 +64,7 @@ no_steps_are_made table kept world current = record {
 pub steps_are_made_after : StepsAreMadeAfter
 steps_are_made_after table first later given more questions others kept last start middle end before after = record {
   through = runs_go_through table first later given more start middle end before.through after.through;
-  current = subst (IsCurrent last end.now.folder) (sym (steps_then table first later)) after.current;
+  current = subst (IsCurrent last end.now.directory) (sym (steps_then table first later)) after.current;
   others = λ name other. after.others name other ∙ before.others name other;
   legal = legal_then table first later before.legal after.legal;
   prefixes = prefixes_then start middle end more before.prefixes after.prefixes after.through.handed;
@@ -117,7 +117,7 @@ calls_make_their_steps table steps kept old new legal quiet shows call current o
   current = current;
   others = others;
   legal = legal;
-  prefixes = prefixes_changed (IsSteppingOn table steps old.now.folder) old new call;
+  prefixes = prefixes_changed (IsSteppingOn table steps old.now.directory) old new call;
   asked = call.asked ∙ sym (append-nil old.asked);
 }
 
@@ -143,7 +143,7 @@ calls_stop_at_their_step table step old new legal shows call =
           without_or_with table step image along.stepping.prefix along.stepping.is_prefix.0 along.stepping.is_prefix.1 along.stepping.shows;
       handed = call.handed ∙ sym (append-nil old.now.handed);
       hands = refl;
-      prefixes = prefixes_changed (IsSteppingOn table (step ∷ []) old.now.folder) old new call;
+      prefixes = prefixes_changed (IsSteppingOn table (step ∷ []) old.now.directory) old new call;
       asked = call.asked ∙ sym (append-nil old.asked);
     }
 

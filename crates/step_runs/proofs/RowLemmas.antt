@@ -75,7 +75,7 @@ done_apart table = subst Apart (same_numbers (done_numbers table))
     (given_apart (λ (entry : ℕ × JobEntry). entry.0) (λ (number : ℕ). number) (λ entry. done_under entry.0 entry.1) done_number
     (entries table.entries) (entries_apart (entries table.entries) (entries_sorted table.entries)))
 
--- an entry stands under its number
+-- an entry is under its number
 entry_held : (table : JobTable) (entry : ℕ × JobEntry) → Has (entries table.entries) entry → entry_at table entry.0 ≡ Some entry.1
 entry_held table entry has =
     get-entries table.entries entry.0 ∙ has_key nat_cmp nat_cmp_total (entries table.entries) entry.0 entry.1 (entries_sorted table.entries) has

@@ -1,7 +1,7 @@
 -- Runs of steps, one after another.
 use Rattle.std.proofs.Common.{◌≡◌, List, [], ◌∷◌, ◌++◌, append_assoc, append-nil, sym, ap, subst, ◌∙◌, refl, inl}
 use Rattle.host_calls.specs.declared.child.Handed.{Handed}
-use Rattle.host_calls.specs.Folder.{Files, Folder, IsImage}
+use Rattle.host_calls.specs.Directory.{Files, Directory, IsImage}
 use Rattle.host_calls.specs.World.{HasEachImage, LeavesOnly, Moment, World}
 use Rattle.host_calls.proofs.WorldLemmas.{at_end, leaves_then, leaves_weaker}
 use Rattle.spool_model.specs.declared.step.Step.{Step}
@@ -17,7 +17,7 @@ use Rattle.step_runs.specs.Runs.{IsAlong, Runs, RunsThrough}
 use Rattle.step_runs.proofs.HandsLemmas.{by_now_then, prefix_after, prefix_longer, prefix_of_one, hands_then, quiet_prefix, steps_then}
 
 -- what leaves the files of an image alone leaves those alone that the image left
-pub others_then : (start middle : Folder) (image : Files) →
+pub others_then : (start middle : Directory) (image : Files) →
     ((from : Files) → IsImage middle from → LeavesOthers IsSpoolName start from) → LeavesOthers IsSpoolName middle image →
     LeavesOthers IsSpoolName start image
 others_then start middle image before after = record {
@@ -41,7 +41,7 @@ along_longer table first later start image handed is = record {
   hands = is.hands;
 }
 
--- an image along later steps is along all, where the earlier ones stand and have handed over all
+-- an image along later steps is along all, where the earlier ones stand and have started all
 along_after : (table : JobTable) (first later : List Step) (given : List Handed) (start middle : World) →
     RunsThrough table first given start middle → (image : Files) (handed : List Handed) →
     IsAlong (after_steps table first) later middle.now image handed → IsAlong table (first ++ later) start.now image handed
@@ -50,7 +50,7 @@ along_after table first later given start middle before image handed is = record
     prefix = first ++ is.stepping.prefix;
     is_prefix = prefix_after first is.stepping.prefix later is.stepping.is_prefix;
     shows = subst (Shows image) (sym (steps_then table first is.stepping.prefix)) is.stepping.shows;
-    others = others_then start.now.folder middle.now.folder image (λ from was. (before.run.now from was).stepping.others) is.stepping.others;
+    others = others_then start.now.directory middle.now.directory image (λ from was. (before.run.now from was).stepping.others) is.stepping.others;
   };
   given = given ++ is.given;
   grown = is.grown ∙ ap (λ (l : List Handed). l ++ is.given) before.handed ∙ append_assoc start.now.handed given is.given;
@@ -83,7 +83,7 @@ runs_go_through table first later given more start middle end before after = rec
 }
 
 -- the images of the start are along any steps: none of them stands yet
-pub along_none : (table : JobTable) (steps : List Step) (start : Moment) → EachShows start.folder table →
+pub along_none : (table : JobTable) (steps : List Step) (start : Moment) → EachShows start.directory table →
     HasEachImage (IsAlong table steps start) start
 along_none table steps start shows image is = record {
   stepping = record {
@@ -97,10 +97,10 @@ along_none table steps start shows image is = record {
   hands = inl refl;
 }
 
--- a call that makes steps is a run of them, where each prefix may have handed over nothing
+-- a call that makes steps is a run of them, where each prefix may have started nothing
 call_is_run : (table : JobTable) (steps : List Step) (old new : World) →
-    ((prefix after : List Step) → steps ≡ prefix ++ after → HandsByNow table prefix []) → EachShows old.now.folder table →
-    ChangesFiles (IsSteppingOn table steps old.now.folder) old new → Runs table steps old new
+    ((prefix after : List Step) → steps ≡ prefix ++ after → HandsByNow table prefix []) → EachShows old.now.directory table →
+    ChangesFiles (IsSteppingOn table steps old.now.directory) old new → Runs table steps old new
 call_is_run table steps old new quiet shows call =
     let leaves : LeavesOnly (IsAlong table steps old.now) old new = leaves_weaker _ _ old new (λ image handed is. record {
       stepping = is.0;

@@ -1,11 +1,11 @@
--- One call more after steps that were made: for the turns of a loop.
+-- One more call after steps that were made: for the turns of a loop.
 use Rattle.std.proofs.Common.{◌≡◌, ℕ, ℤ, Bool, List, [], ◌∷◌, ◌++◌, append-nil, map, sym, subst}
 use Rattle.std.specs.Prelude.{Option, Ok, Err}
 use Rattle.host_calls.specs.declared.child.Asked.{Asked}
 use Rattle.host_calls.specs.declared.child.Child.{Child}
 use Rattle.host_calls.specs.declared.child.Ending.{Ending}
 use Rattle.host_calls.specs.declared.child.Handed.{Handed}
-use Rattle.host_calls.specs.Folder.{Folder}
+use Rattle.host_calls.specs.Directory.{Directory}
 use Rattle.host_calls.specs.World.{Asks, World}
 use Rattle.spool_model.specs.declared.step.Step.{Step}
 use Rattle.spool_model.specs.declared.step.Step.TheVariants.{Start}
@@ -19,15 +19,15 @@ use Rattle.step_runs.specs.Made.{AreMade, AreStopped, IsStarted, flags_of}
 use Rattle.step_runs.proofs.WithoutScriptsLemmas.{legal_as_on_the_table, lists_legal_as_on_the_table}
 use Rattle.step_runs.proofs.MadeLemmas.{calls_make_their_steps, calls_stop_at_their_step, made_steps_are_stopped, questions_make_no_step, steps_are_made_after, steps_are_stopped_after}
 
--- what is legal on the table that is kept is legal on the table that the folder shows
-pub legal_when_kept : (kept : Kept) (folder : Folder) (table : JobTable) (step : Step) → IsCurrent kept folder table →
+-- what is legal on the table that is kept is legal on the table that the directory shows
+pub legal_when_kept : (kept : Kept) (directory : Directory) (table : JobTable) (step : Step) → IsCurrent kept directory table →
     IsLegal kept.table (step_without_script step) → IsLegal table step
-legal_when_kept kept folder table step current legal =
+legal_when_kept kept directory table step current legal =
     (legal_as_on_the_table table step).0 (subst (λ of. IsLegal of (step_without_script step)) current.without_scripts_is legal)
 
-pub all_legal_when_kept : (kept : Kept) (folder : Folder) (table : JobTable) (steps : List Step) → IsCurrent kept folder table →
+pub all_legal_when_kept : (kept : Kept) (directory : Directory) (table : JobTable) (steps : List Step) → IsCurrent kept directory table →
     AreLegal kept.table (map step_without_script steps) → AreLegal table steps
-all_legal_when_kept kept folder table steps current legal =
+all_legal_when_kept kept directory table steps current legal =
     (lists_legal_as_on_the_table table steps).0 (subst (λ of. AreLegal of (map step_without_script steps)) current.without_scripts_is legal)
 
 -- After these steps, which were made:
@@ -57,7 +57,7 @@ module _ (table : JobTable) (done : List Step) (given : List Handed) (questions 
   fault_after step fault legal call =
       stop_after (step ∷ []) (calls_stop_at_their_step (after_steps table done) step middle new legal made.current.shows call.files)
 
-  -- a start is made, and its script handed over
+  -- a start is made, and its script started
   pub start_after : (number : ℕ) (second : ℤ) (flag : Bool) (last : Kept) → IsStarted (after_steps table done) number second flag last middle new →
       (handed : Handed) × IsStartOf (after_steps table done) number handed × (flags_of (handed ∷ []) ≡ flag ∷ []) × AreMade table (done ++ Start number second ∷ []) (given ++ handed ∷ []) questions last old new
   start_after number second flag last started = (
@@ -77,7 +77,7 @@ module _ (table : JobTable) (done : List Step) (given : List Handed) (questions 
       (steps_are_made_after table done [] given [] questions (record { child = child; answer = answer } ∷ []) kept kept old middle new made
       (questions_make_no_step (after_steps table done) kept child answer middle new made.current asks)))
 
-  -- what keeps the world keeps what was made in it, as the end of a session where nobody else changes the folder
+  -- what keeps the world keeps what was made in it, as the end of a session where nobody else changes the directory
   pub nothing_after : new ≡ middle → AreMade table done given questions kept old new
   nothing_after same = subst (AreMade table done given questions kept old) (sym same) made
 

@@ -10,7 +10,7 @@ use Rattle.spool_model.specs.declared.step.Step.TheVariants.{Draw, Accept, Remov
 use Rattle.spool_model.specs.JobTable.{JobTable, entry_at}
 use Rattle.spool_model.specs.Steps.{after_step}
 
--- This was handed over for the start of the number on the table: the script of its job, as nice as its queue has it.
+-- This was started for the start of the number on the table: the script of its job, as nice as its queue has it.
 pub record IsStartOf (table : JobTable) (number : ℕ) (handed : Handed) : Type 0 where
   pub job : Job
   pub pending : entry_at table number ≡ Some (Live job Pending)
@@ -18,7 +18,7 @@ pub record IsStartOf (table : JobTable) (number : ℕ) (handed : Handed) : Type 
   pub script : handed.script ≡ job.script
   pub nice : handed.nice ≡ niceness_of job.queue
 
--- what one step on a table hands over: a start one script, another step nothing
+-- what one step on a table starts: a start one script, another step nothing
 abbrev pub HandsOne : JobTable → Step → List Handed → Type 0
 HandsOne table (Start number second) given = (handed : Handed) × IsStartOf table number handed × (given ≡ handed ∷ [])
 HandsOne table Draw given = given ≡ []
@@ -35,7 +35,7 @@ Hands table (step ∷ later) given =
     (first : List Handed) × (rest : List Handed) × HandsOne table step first
     × Hands (after_step table step) later rest × (given ≡ first ++ rest)
 
--- The last step is a start whose script was not handed over yet; those before it have handed over these.
+-- The last step is a start whose script was not started yet; those before it have started these.
 pub record LacksLast (table : JobTable) (steps : List Step) (given : List Handed) : Type 0 where
   pub earlier : List Step
   pub number : ℕ
@@ -43,8 +43,8 @@ pub record LacksLast (table : JobTable) (steps : List Step) (given : List Handed
   pub ends : steps ≡ earlier ++ Start number second ∷ []
   pub hands : Hands table earlier given
 
--- What was handed over once these steps stand. A start stands before its script is handed over, so that of
--- the last step may be wanting.
+-- What was started once these steps stand. A start stands before its script is started, so that of
+-- the last step may be missing.
 abbrev pub HandsByNow : JobTable → List Step → List Handed → Type 0
 HandsByNow table steps given = Hands table steps given ⊎ LacksLast table steps given
 

@@ -76,20 +76,20 @@ RunsGoThrough = (table : JobTable) (first later : List Step) (given more : List 
 -- a call of the store is a run of its steps, where they start nothing
 abbrev pub CallsAreRuns : Type 0
 CallsAreRuns = (table : JobTable) (steps : List Step) (old new : World) → StartNothing steps →
-    EachShows old.now.folder table → ChangesFiles (IsSteppingOn table steps old.now.folder) old new →
+    EachShows old.now.directory table → ChangesFiles (IsSteppingOn table steps old.now.directory) old new →
     Runs table steps old new
 
 -- a call of the store that makes one step is a run of it
 abbrev pub OneStepIsARun : Type 0
-OneStepIsARun = (table : JobTable) (step : Step) (old new : World) → EachShows old.now.folder table →
-    ChangesFiles (IsSteppingOn table (step ∷ []) old.now.folder) old new → Runs table (step ∷ []) old new
+OneStepIsARun = (table : JobTable) (step : Step) (old new : World) → EachShows old.now.directory table →
+    ChangesFiles (IsSteppingOn table (step ∷ []) old.now.directory) old new → Runs table (step ∷ []) old new
 
 -- a recovery that shows a table, and a run of steps that are legal on it, are an attempt
 abbrev pub RunsAfterRecoveries : Type 0
 RunsAfterRecoveries = (table : JobTable) (steps : List Step) (start middle end : World) →
-    shown_by (reading start) ≡ Ok table → ChangesFiles (ShowsAsBefore start.now.folder) start middle → AreLegal table steps →
+    shown_by (reading start) ≡ Ok table → ChangesFiles (ShowsAsBefore start.now.directory) start middle → AreLegal table steps →
     Runs table steps middle end → IsBegun table steps start end
 
 -- a recovery alone begins no step
 abbrev pub RecoveriesBeginNothing : Type 0
-RecoveriesBeginNothing = (start end : World) → ChangesFiles (ShowsAsBefore start.now.folder) start end → IsUnbegun start end
+RecoveriesBeginNothing = (start end : World) → ChangesFiles (ShowsAsBefore start.now.directory) start end → IsUnbegun start end

@@ -20,7 +20,7 @@ use Rattle.step_runs.specs.Made.{AreCutOff, AreMade, AreStopped, IsScriptFile, S
 
 -- where what is kept is current, no steps were made
 abbrev pub NoStepsAreMade : Type 0
-NoStepsAreMade = (table : JobTable) (kept : Kept) (world : World) → IsCurrent kept world.now.folder table →
+NoStepsAreMade = (table : JobTable) (kept : Kept) (world : World) → IsCurrent kept world.now.directory table →
     AreMade table [] [] [] kept world world
 
 -- steps that were made, and those that were made after them, are made
@@ -53,48 +53,48 @@ StepsAreCutOffAfter = (table : JobTable) (first later next : List Step) (given :
 -- a call of the store that hands a current one back has made its steps, where they start nothing
 abbrev pub CallsMakeTheirSteps : Type 0
 CallsMakeTheirSteps = (table : JobTable) (steps : List Step) (kept : Kept) (old new : World) → AreLegal table steps →
-    StartNothing steps → EachShows old.now.folder table → ChangesFiles (IsSteppingOn table steps old.now.folder) old new →
-    IsCurrent kept new.now.folder (after_steps table steps) → KeepsOthers old.now.folder new.now.folder →
+    StartNothing steps → EachShows old.now.directory table → ChangesFiles (IsSteppingOn table steps old.now.directory) old new →
+    IsCurrent kept new.now.directory (after_steps table steps) → KeepsOthers old.now.directory new.now.directory →
     AreMade table steps [] [] kept old new
 
 -- a call of the store for one step, whatever comes of it, is stopped at that step
 abbrev pub CallsStopAtTheirStep : Type 0
 CallsStopAtTheirStep = (table : JobTable) (step : Step) (old new : World) → IsLegal table step →
-    EachShows old.now.folder table → ChangesFiles (IsSteppingOn table (step ∷ []) old.now.folder) old new →
+    EachShows old.now.directory table → ChangesFiles (IsSteppingOn table (step ∷ []) old.now.directory) old new →
     AreStopped table [] (step ∷ []) [] [] old new
 
 -- a call of the store for any steps that start nothing, whatever comes of it, is cut off at them
 abbrev pub CallsAreCutOff : Type 0
 CallsAreCutOff = (table : JobTable) (steps : List Step) (old new : World) → AreLegal table steps → StartNothing steps →
-    EachShows old.now.folder table → ChangesFiles (IsSteppingOn table steps old.now.folder) old new →
+    EachShows old.now.directory table → ChangesFiles (IsSteppingOn table steps old.now.directory) old new →
     AreCutOff table [] steps old new
 
 -- a start that the store made, and the call of the host after it to which its script is given
 abbrev pub StartsEnd : Type 0
 StartsEnd = (table : JobTable) (number : ℕ) (second : ℤ) (name : List ℕ) (nice : ℕ) (kept : Kept) (old middle new : World)
-    (result : Result Child StartFault) → IsLegal table (Start number second) → EachShows old.now.folder table →
-    ChangesFiles (IsSteppingOn table (Start number second ∷ []) old.now.folder) old middle →
-    IsCurrent kept middle.now.folder (after_step table (Start number second)) → KeepsOthers old.now.folder middle.now.folder →
+    (result : Result Child StartFault) → IsLegal table (Start number second) → EachShows old.now.directory table →
+    ChangesFiles (IsSteppingOn table (Start number second ∷ []) old.now.directory) old middle →
+    IsCurrent kept middle.now.directory (after_step table (Start number second)) → KeepsOthers old.now.directory middle.now.directory →
     IsScriptFile (after_step table (Start number second)) (reading middle) number name nice →
     StartCall number name nice middle new result → StartEnds table number second kept old new result
 
 -- a question to a child, and its answer, make no step
 abbrev pub QuestionsMakeNoStep : Type 0
 QuestionsMakeNoStep = (table : JobTable) (kept : Kept) (child : Child) (answer : Option Ending) (old new : World) →
-    IsCurrent kept old.now.folder table → Asks child old new (Ok answer) →
+    IsCurrent kept old.now.directory table → Asks child old new (Ok answer) →
     AreMade table [] [] (record { child = child; answer = answer } ∷ []) kept old new
 
 -- steps that were made after a recovery are achieved
 abbrev pub MadeStepsAreAchieved : Type 0
 MadeStepsAreAchieved = (table : JobTable) (steps : List Step) (given : List Handed) (questions : List Asked) (kept : Kept)
     (start middle end : World) → shown_by (reading start) ≡ Ok table →
-    ChangesFiles (ShowsAsBefore start.now.folder) start middle →
-    KeepsOthers start.now.folder middle.now.folder → AreMade table steps given questions kept middle end →
+    ChangesFiles (ShowsAsBefore start.now.directory) start middle →
+    KeepsOthers start.now.directory middle.now.directory → AreMade table steps given questions kept middle end →
     IsAchieved table steps start end
 
 -- steps that were stopped after a recovery are begun, with the next one
 abbrev pub StoppedStepsAreBegun : Type 0
 StoppedStepsAreBegun = (table : JobTable) (steps next : List Step) (given : List Handed) (questions : List Asked)
     (start middle end : World) → shown_by (reading start) ≡ Ok table →
-    ChangesFiles (ShowsAsBefore start.now.folder) start middle →
+    ChangesFiles (ShowsAsBefore start.now.directory) start middle →
     AreStopped table steps next given questions middle end → IsBegun table (steps ++ next) start end

@@ -33,9 +33,9 @@ pub fn runs_stand_after_recoveries()
     ensures begun { RunsAfterRecoveries }
 {}
 
-/// A folder of which each image shows a table comes to show no damage, at no moment: not by a recovery, a call of the
-/// store, a run of steps, or an attempt at them, as commands and turns make it, whatever comes of these.
-pub fn good_folders_stay_good()
+/// A directory of which each image shows a table comes to show no damage, at no moment: not by a recovery, a call of
+/// the store, a run of steps, or an attempt at them, as commands and turns make it, whatever comes of these.
+pub fn good_directories_stay_good()
     ensures recoveries { RecoveriesKeepGood }
     ensures calls { StoreCallsKeepGood }
     ensures runs { RunsKeepGood }

@@ -3,10 +3,10 @@
 //!
 //! Its definitions are what a reader of these believes, and not what runs. In the order in which to read them:
 //! 1. `WithoutScripts`: the job table as a store keeps it
-//! 2. `Current`: what a store keeps of a folder, and when that is current (`IsCurrent`); `Codes` tells stores apart
+//! 2. `Current`: what a store keeps of a directory, and when that is current (`IsCurrent`); `Codes` tells stores apart
 //! 3. `Calls`: what a call of the store leaves, the table before it or after a prefix of its steps (`StoreCall`)
 //! 4. `Hands`: what steps hand over, the script of each start
-//! 5. `Runs`: what a crash leaves at each moment of steps, and what was handed over by then
+//! 5. `Runs`: what a crash leaves at each moment of steps, and what was started by then
 //! 6. `Attempts`: a recovery, and then a run (`Attempts`, `Achieves`)
 //! 7. `Made`: calls one after another, made to their end, or stopped, or cut off (`AreMade`, `AreStopped`, `AreCutOff`)
 //! 8. `MadeLaws` and `Laws`: how these join; `Good`: that none of them brings a damage
@@ -16,7 +16,7 @@ mod laws;
 mod made;
 
 pub use laws::{
-    calls_are_runs, good_folders_stay_good, runs_go_on, runs_stand_after_recoveries,
+    calls_are_runs, good_directories_stay_good, runs_go_on, runs_stand_after_recoveries,
     tables_without_scripts_step_alike,
 };
 pub use made::{

@@ -7,7 +7,7 @@ use std::io::{BufRead, ErrorKind, Lines, PipeReader, Read};
 use std::path::PathBuf;
 use std::time::{Clock, Duration};
 
-/// Its clock tells `time`, which goes on by `speed` times what a rest was asked for. All that was asked for is `rested`.
+/// Its clock tells `time`, which goes on by `speed` times what a rest was requested. All that was requested is `rested`.
 #[derive(Drop)]
 pub struct Outside<'a> {
     rt: &'a HostRuntime,
@@ -69,7 +69,7 @@ impl Read for Trickle<'_> {
     }
 }
 
-// Nobody asks for its buffer.
+// Nobody requests its buffer.
 impl BufRead for Trickle<'_> {
     fn fill_buf(&mut self) -> io::Result<&[u8]> {
         Ok(&[])

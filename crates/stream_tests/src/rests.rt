@@ -1,4 +1,4 @@
-//! Rests: those that last as long as they are asked for, and those that end at a second of the clock or at a change.
+//! Rests: those that last as long as they are requested, and those that end at a second of the clock or at a change.
 use crate::outside::Outside;
 use crate::words::{clear, fresh_path, line, named, shell};
 use host_calls::{Name, Readings};
@@ -21,17 +21,17 @@ fn a_rest_is_asked_and_a_clock_after_all_seconds_is_none(rt: HostRuntime) -> Res
     Ok(())
 }
 
-// The readings of an outside that watch these files of a folder.
+// The readings of an outside that watch these files of a directory.
 fn watching<R: Files<File = File> + Clock + Drop>(
     outside: R,
     alloc: Global,
-    folder: &str,
+    directory: &str,
     files: &[Name],
 ) -> Result<UnixReadings<R>, Fail> {
-    if !folder.starts_with('/') {
+    if !directory.starts_with('/') {
         return Err(Fail::from("a relative path"));
     }
-    Ok(UnixReadings::watching(outside, alloc, folder, files)?)
+    Ok(UnixReadings::watching(outside, alloc, directory, files)?)
 }
 
 // What a rest of so many seconds lasts, in milliseconds, where the clock told the first time at the last `now`, and the second
@@ -69,19 +69,20 @@ fn a_rest_ends_at_a_second_of_the_clock(rt: HostRuntime) -> Result<(), Fail> {
     Ok(())
 }
 
-// How many milliseconds two rests of ten seconds last, once this line of the shell ran in a folder of which one file is watched.
+// How many milliseconds two rests of ten seconds last, once this line of the shell ran in a directory of which one file is
+// watched.
 fn rested_after(
     rt: &HostRuntime,
-    folder: &str,
+    directory: &str,
     file: &Name,
     text: &str,
 ) -> Result<(u128, u128), Fail> {
     let (input, writer) = io::pipe(rt)?;
     drop(writer);
     let outside = Outside::at(rt, Duration::from_millis(30_400), 1, &input);
-    let mut readings = watching(&outside, rt.alloc(), folder, &[*file])?;
+    let mut readings = watching(&outside, rt.alloc(), directory, &[*file])?;
     readings.now();
-    line(rt, text, folder)?;
+    line(rt, text, directory)?;
     readings.rest(10);
     let first = outside.rested.get();
     readings.rest(10);
@@ -113,9 +114,9 @@ fn a_rest_ends_where_a_watched_file_has_changed(rt: HostRuntime) -> Result<(), F
     clear(&rt, path.as_str())
 }
 
-// How long a rest of a minute lasts by the system's clock, where these files of a folder are watched.
-fn time_of_rest(rt: &HostRuntime, folder: &str, files: &[Name]) -> Result<Duration, Fail> {
-    let mut readings = watching(rt.clone()?, rt.alloc(), folder, files)?;
+// How long a rest of a minute lasts by the system's clock, where these files of a directory are watched.
+fn time_of_rest(rt: &HostRuntime, directory: &str, files: &[Name]) -> Result<Duration, Fail> {
+    let mut readings = watching(rt.clone()?, rt.alloc(), directory, files)?;
     let before = rt.monotonic()?;
     readings.rest(60);
     Ok(rt.monotonic()?.saturating_sub(before))
@@ -133,7 +134,8 @@ fn a_rest_ends_while_it_lasts(rt: HostRuntime) -> Result<(), Fail> {
     Ok(())
 }
 
-// How many milliseconds two rests of ten seconds last beside a child of this process that runs this line of the shell.
+// How many milliseconds two rests of ten seconds last next to a child of this process that runs this line of the
+// shell.
 fn rested_beside(rt: &HostRuntime, text: &str) -> Result<(u128, u128), Fail> {
     let (input, writer) = io::pipe(rt)?;
     drop(writer);

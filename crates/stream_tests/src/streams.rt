@@ -26,7 +26,7 @@ fn the_clock_and_the_load_are_read(rt: HostRuntime) -> Result<(), Fail> {
     Ok(())
 }
 
-// How many bytes a file gives, of which at most so many are asked for.
+// How many bytes a file gives, of which at most so many are requested.
 fn count_of<I: Inputs>(
     alloc: Global,
     inputs: &mut I,

@@ -8,7 +8,7 @@ use Rattle.job_script.specs.declared.fault.ScriptFault.TheVariants as script
 use Rattle.listing_text.specs.declared.cause.Cause.TheVariants.{Refused}
 use Rattle.listing_text.specs.declared.refusal.Refusal.{Refusal}
 use Rattle.listing_text.specs.declared.refusal.Refusal.TheVariants.{BadDirectory, BadUser, EnvironmentTooLarge}
-use Rattle.cause_output.specs.Causes.{cause_of_script}
+use Rattle.tool_output.specs.Causes.{cause_of_script}
 use Rattle.command_rules.specs.Checks.{check_of, is_earlier_check, of_input, of_lock, of_variables, of_zone}
 use Rattle.command_rules.specs.Verdict.{directory_check, first_refusal, user_check, variables_check}
 

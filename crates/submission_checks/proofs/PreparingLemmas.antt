@@ -4,7 +4,7 @@ use Rattle.std.proofs.lemmas.Int.{to_z-of_z}
 use Rattle.std.specs.Prelude.{Option, Some, None, Result, Ok, Err}
 use Rattle.at_words.specs.declared.when.When.{When}
 use Rattle.civil_minute.specs.declared.zone.Zone.{Zone}
-use Rattle.clock_range.specs.ClockRange.{is_clock_second}
+use Rattle.host_calls.specs.ClockRange.{is_clock_second}
 use Rattle.host_calls.specs.Clock.{Answers, with_now}
 use Rattle.host_calls.specs.Inputs.{Contents, AreReadAtMostOnce, AreReadOnce, Sources}
 use Rattle.job_script.specs.Check.{IsUsableContext, Written, first_fault}
@@ -18,8 +18,8 @@ use Rattle.listing_text.specs.declared.cause.Cause.{Cause}
 use Rattle.listing_text.specs.declared.cause.Cause.TheVariants.{Refused, InputFault, Memory}
 use Rattle.listing_text.specs.declared.refusal.Refusal.{Refusal}
 use Rattle.listing_text.specs.declared.refusal.Refusal.TheVariants.{BadClock, BadZone, TooLong}
-use Rattle.cause_output.specs.declared.caller.Caller.{Caller}
-use Rattle.cause_output.specs.Causes.{cause_of_script, error_of}
+use Rattle.tool_output.specs.declared.caller.Caller.{Caller}
+use Rattle.tool_output.specs.Causes.{cause_of_script, error_of}
 use Rattle.command_rules.specs.Checks.{Check, check_of, is_earlier_check, of_clock, of_input, of_length, of_lock, of_variables, of_zone}
 use Rattle.command_rules.specs.Ends.{KeepsOrder}
 use Rattle.command_rules.specs.Found.{AreReadCommands, FindsInput, Found, found_of}
@@ -27,9 +27,9 @@ use Rattle.command_rules.specs.Times.{IsMeant, IsTimeOf}
 use Rattle.command_rules.specs.Verdict.{clock_check, directory_check, first_refusal, length_check, submission_checks, time_check, user_check, variables_check, zone_check}
 use Rattle.civil_minute.specs.Zone.{is_unreadable}
 use Rattle.command_rules.proofs.CheckLemmas.{allowed_up_to, refused_up_to}
-use Rattle.submission_checks.specs.Preparing.{Prepares}
-use Rattle.submission_checks.specs.Reading.{IsOfInput}
-use Rattle.submission_checks.specs.Timing.{MeansNone}
+use Rattle.submission_checks.specs.EarlyChecks.{Prepares}
+use Rattle.submission_checks.specs.ReadCauses.{IsOfInput}
+use Rattle.submission_checks.specs.TimeChecks.{MeansNone}
 use Rattle.submission_checks.specs.declared.submission.Submission.{Submission}
 use Rattle.submission_checks.proofs.ContextLemmas.{HasPassed, IsContextRefused, context_refused, pass, stop}
 
@@ -45,7 +45,7 @@ refused verdict refusal is = rw is (inl refl)
 pub meant_at : (when : When) (given now : ℤ) (zone : Zone) (time : Result ℕ Refusal) → given ≡ now → IsMeant when given zone time → IsMeant when now zone time
 meant_at when given now zone time same meant = subst (λ (of : ℤ). IsMeant when of zone time) same meant
 
--- want of memory keeps the order
+-- an out-of-memory error keeps the order
 no_memory : (verdict : Option Refusal) → KeepsOrder verdict Memory
 no_memory None = tt
 no_memory (Some refusal) = inr (inl refl)

@@ -17,9 +17,9 @@ use Rattle.timespec_lexer.specs.declared.token.Token.{Token}
 use Rattle.timespec_lexer.specs.Tokens.{IsOnlyReading, IsOnlyRefusal, RefusedAt, Tokenizes}
 use Rattle.touch_time.specs.declared.touch.TouchTime.{TouchTime}
 use Rattle.touch_time.specs.Touch.{SpellsTouch}
-use Rattle.cause_output.specs.declared.command_error.CommandError.{CommandError}
+use Rattle.tool_output.specs.declared.command_error.CommandError.{CommandError}
 use Rattle.command_rules.specs.Times.{IsDated, IsOnly, IsSpecTime, IsTouchTime, no_timespec, no_tokens, no_touch, place_in, timespec, touch_time}
-use Rattle.submission_checks.specs.Timing.{IsDatedAs, MeansTime}
+use Rattle.submission_checks.specs.TimeChecks.{IsDatedAs, MeansTime}
 
 -- tokens that stop spell nothing
 stops_spell_nothing : (tokens : List Token) (fault : ℕ) (spec : Spelled) → StopsAt tokens fault → Spells tokens spec → ⊥

@@ -1,3 +1,3 @@
-pub mod Preparing
-pub mod Reading
-pub mod Timing
+pub mod EarlyChecks
+pub mod ReadCauses
+pub mod TimeChecks

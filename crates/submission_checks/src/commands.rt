@@ -3,9 +3,9 @@ ghost use Rattle.std.specs.Prelude.{◌≡◌, IfErr, IfOk, IsTrue, option_copie
 ghost use Rattle.host_calls.specs.Causes.{HasCause};
 ghost use Rattle.host_calls.specs.Inputs.{AreReadOnce};
 ghost use Rattle.listing_text.specs.declared.cause.Cause.TheVariants as cause;
-ghost use Rattle.cause_output.specs.Causes.{error_of};
+ghost use Rattle.tool_output.specs.Causes.{error_of};
 ghost use Rattle.command_rules.specs.Found.{AreReadCommands};
-ghost use Rattle.submission_checks.specs.Reading.{ComesOfReading};
+ghost use Rattle.submission_checks.specs.ReadCauses.{ComesOfReading};
 
 use command_rules::CommandError;
 use host_calls::{Bytes, Inputs};

@@ -1,5 +1,5 @@
 //! What is submitted.
-ghost use Rattle.clock_range.specs.ClockRange.{IsClockMinute};
+ghost use Rattle.host_calls.specs.ClockRange.{IsClockMinute};
 
 use host_calls::Bytes;
 

@@ -1,12 +1,12 @@
 //! The minute that the time of a submission means.
 ghost use Rattle.std.specs.Prelude.{◌≡◌, IfOk};
 ghost use Rattle.civil_minute.specs.Zone.{IsReadable};
-ghost use Rattle.clock_range.specs.ClockRange.{IsClockMinute, IsClockSecond};
-ghost use Rattle.cause_output.specs.Causes.{error_of};
+ghost use Rattle.host_calls.specs.ClockRange.{IsClockMinute, IsClockSecond};
+ghost use Rattle.tool_output.specs.Causes.{error_of};
 ghost use Rattle.listing_text.specs.declared.cause.Cause.TheVariants as cause;
 ghost use Rattle.listing_text.specs.declared.refusal.Refusal.TheVariants as refusal;
 ghost use Rattle.command_rules.specs.Times.{IsSpecTime, IsTimeOf, IsTouchTime, place_in};
-ghost use Rattle.submission_checks.specs.Timing.{IsDatedAs, MeansTime};
+ghost use Rattle.submission_checks.specs.TimeChecks.{IsDatedAs, MeansTime};
 
 use at_words::When;
 use civil_minute::{DateFault, Zone, minute_of, minute_of_touch};

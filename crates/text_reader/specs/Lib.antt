@@ -1,3 +1,6 @@
 pub mod Blanks
+pub mod HexDigits
+pub mod HexLaws
+pub mod HexValues
 pub mod Lines
-pub mod Reading
+pub mod ReadResult

@@ -1,9 +1,9 @@
 //! A number of two digits.
 ghost use Rattle.std.specs.Prelude.{◌≡◌, ◌≤◌, IfSome};
-ghost use Rattle.text_reader.specs.Reading.{read_view, two_digits_in};
+ghost use Rattle.text_reader.specs.ReadResult.{read_view, two_digits_in};
 
 /// The number of the two digits that the text begins with, and the rest.
-#[tactic(auto, unfolding(crate::specs::Reading::two_digits_in))]
+#[tactic(auto, unfolding(crate::specs::ReadResult::two_digits_in))]
 pub fn read_two_digits(text: &[u8]) -> Option<(u8, &[u8])>
     ensures value { read_view result ≡ two_digits_in text.now }
     ensures bound { IfSome result (λ read. read.0 ≤ 99) }

@@ -4,8 +4,8 @@ use Rattle.std.proofs.Common.{ap}
 use Rattle.std.specs.BTreeSet.{BTreeSet, contains}
 use Rattle.std.specs.List.{list_any}
 use Rattle.std.specs.Ordering.{nat_cmp}
-use Rattle.hex_digits.specs.Digits.{SpellsNumber}
-use Rattle.hex_digits.proofs.DigitLemmas.{one_number}
+use Rattle.text_reader.specs.HexDigits.{SpellsNumber}
+use Rattle.text_reader.proofs.DigitLemmas.{one_number}
 use Rattle.text_tests.specs.declared.letters.Letter.{Letter}
 use Rattle.text_tests.specs.declared.numbers.Number.{Number}
 

@@ -1,5 +1,5 @@
 //! Numbers of the formats, as they are written there.
-use hex_digits::{digit_of, digits_of, read_hex, write_hex};
+use text_reader::{digit_of, digits_of, read_hex, write_hex};
 
 #[test]
 fn numbers_and_their_digits(rt: HostRuntime) {

@@ -24,7 +24,7 @@ impl LineRecord for Number {
         if line.len() != 8 {
             return None;
         }
-        let number = hex_digits::read_hex(line)?;
+        let number = text_reader::read_hex(line)?;
         Some(Number {
             number: number as u32,
         })
@@ -32,7 +32,7 @@ impl LineRecord for Number {
 
     fn write(&self, text: &mut Vec<u8>) -> Result<(), AllocError> {
         let mut digits = [0; 8];
-        hex_digits::write_hex(&mut digits, self.number as u64);
+        text_reader::write_hex(&mut digits, self.number as u64);
         text.extend_from_slice(&digits)?;
         Ok(())
     }

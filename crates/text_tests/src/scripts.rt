@@ -58,7 +58,7 @@ fn contexts_that_no_job_takes_over(rt: HostRuntime) -> Result<(), Fail> {
     Ok(())
 }
 
-// What is said of a variable with a value of so many bytes, beside one that no job has.
+// What is said of a variable with a value of so many bytes, next to one that no job has.
 fn checked_with(alloc: Global, length: usize) -> Result<Result<(), ScriptFault>, Fail> {
     let mut value = String::new(alloc);
     for _ in 0..length {

@@ -1,5 +1,5 @@
 //! Seconds and minutes at the edges of the range, from GNU date.
-use clock_range::{LAST_MINUTE, LAST_SECOND, is_clock_second, minute_at};
+use host_calls::{LAST_MINUTE, LAST_SECOND, is_clock_second, minute_at};
 
 #[test]
 fn edges_of_the_range(rt: HostRuntime) {

@@ -126,7 +126,7 @@ date_accepted at _ rest _ by (grammar.weekday value fits) end =
 date_accepted at _ rest _ by grammar.today end = end_accepted at date.Today rest by end
 date_accepted at _ rest _ by grammar.tomorrow end = end_accepted at date.Tomorrow rest by end
 
--- what stands after a time
+-- what is after a time
 data IsTail : List Token → DatePart → Option Increment → Type 0 where
   undated : (rest : List Token) (by : Option Increment) → IsEnd rest by → IsTail rest date.Absent by
   dated : (dates rest : List Token) (day : DatePart) (by : Option Increment) → IsDate dates day → IsEnd rest by
@@ -234,7 +234,7 @@ clock_read _ _ _ (grammar.hour_colon digits value count number fits small) = rec
       ∙ when (is_minute count number) (read.HourMinute value number) None rest small;
 }
 
--- a time and what stands after it
+-- a time and what is after it
 time_accepted : (times tail : List Token) (at : Clock) (day : DatePart) (by : Option Increment) → IsTime times at
     → IsTail tail day by → accepts read.Nothing (times ++ tail) ≡ Some (timespec_of at day by)
 time_accepted _ tail _ day by (grammar.clock24 tokens hour minute is) ends =

@@ -3,11 +3,11 @@ use Rattle.std.proofs.Common.{◌≡◌, ℕ, ◌+◌, ◌≤◌, false, List, [
 use Rattle.std.specs.Prelude.{slice_index}
 use Rattle.std.proofs.lemmas.Bool.{cases_lt}
 use Rattle.std.proofs.lemmas.List.{length-append}
-use Rattle.timespec_lexer.specs.Tokens.{is_separator, AreSeparators, IsOnlyReading, IsOnlyRefusal, RefusedAt, Stands, Tokenizes, Walks}
+use Rattle.timespec_lexer.specs.Tokens.{is_separator, AreSeparators, IsOnlyReading, IsOnlyRefusal, RefusedAt, HasToken, Tokenizes, Walks}
 use Rattle.timespec_lexer.specs.declared.lexer.TheConstants.{MAX_TOKENS}
 use Rattle.timespec_lexer.specs.declared.token.Token.{Token}
 use Rattle.timespec_lexer.specs.declared.placed.Placed.{Placed}
-use Rattle.timespec_lexer.proofs.StandLaws.{stands_solid, stands_inside, stands_once, none_stands}
+use Rattle.timespec_lexer.proofs.StandLaws.{holds_solid, holds_inside, holds_once, none_holds}
 
 -- two places after the same separators where no separator stands are one
 one_place : (text : List ℕ) (from a b : ℕ) → AreSeparators text from a → AreSeparators text from b
@@ -36,7 +36,7 @@ record GoesOn (text : List ℕ) (before after : List Placed) (end : ℕ) : Type 
   all : after ≡ before ++ next ∷ others
   separators : AreSeparators text end next.place
   to : ℕ
-  stands : Stands text next.place to next.token
+  holds : HasToken text next.place to next.token
 
 -- of two walks from one place, one is the other, or goes on after it
 compare_walks : (text : List ℕ) (from : ℕ) (a b : List Placed) (end end' : ℕ)
@@ -50,7 +50,7 @@ compare_walks text from [] (next ∷ others) end end' first second =
       all = refl;
       separators = subst (λ (place : ℕ). AreSeparators text place next.place) first second.0;
       to = second.1;
-      stands = second.2;
+      holds = second.2;
     }))
 compare_walks text from (next ∷ others) [] end end' first second =
     inr (inr (record {
@@ -59,13 +59,13 @@ compare_walks text from (next ∷ others) [] end end' first second =
       all = refl;
       separators = subst (λ (place : ℕ). AreSeparators text place next.place) second first.0;
       to = first.1;
-      stands = first.2;
+      holds = first.2;
     }))
 compare_walks text from (x ∷ xs) (y ∷ ys) end end' first second =
     let place : x.place ≡ y.place = one_place text from x.place y.place first.0 second.0
-    (stands_solid text x.place first.1 x.token first.2) (stands_solid text y.place second.1 y.token second.2) in
-    let same : (second.1 ≡ first.1) × (y.token ≡ x.token) = stands_once text y.place second.1 first.1 y.token x.token second.2
-    (subst (λ (p : ℕ). Stands text p first.1 x.token) place first.2) in
+    (holds_solid text x.place first.1 x.token first.2) (holds_solid text y.place second.1 y.token second.2) in
+    let same : (second.1 ≡ first.1) × (y.token ≡ x.token) = holds_once text y.place second.1 first.1 y.token x.token second.2
+    (subst (λ (p : ℕ). HasToken text p first.1 x.token) place first.2) in
     let head : x ≡ y = same_placed x y (sym same.1) place in
     let rest : Walks text first.1 ys end' = subst (λ (p : ℕ). Walks text p ys end') same.0 second.3 in
     elim (compare_walks text first.1 xs ys end end' first.3 rest) [
@@ -76,7 +76,7 @@ compare_walks text from (x ∷ xs) (y ∷ ys) end end' first second =
         all = cc (head, more.all);
         separators = more.separators;
         to = more.to;
-        stands = more.stands;
+        holds = more.holds;
       }))
       | inr (inr more) ↦ inr (inr (record {
         next = more.next;
@@ -84,7 +84,7 @@ compare_walks text from (x ∷ xs) (y ∷ ys) end end' first second =
         all = cc (head, more.all);
         separators = more.separators;
         to = more.to;
-        stands = more.stands;
+        holds = more.holds;
       }))
     ]
 
@@ -92,8 +92,8 @@ compare_walks text from (x ∷ xs) (y ∷ ys) end end' first second =
 ends_there : (text : List ℕ) (a b : List Placed) (end : ℕ) → AreSeparators text end (length text) → GoesOn text a b end → ⊥
 ends_there text a b end separators more =
     cc (
-      separators.each more.next.place more.separators.forward (stands_inside text more.next.place more.to more.next.token more.stands),
-      stands_solid text more.next.place more.to more.next.token more.stands,
+      separators.each more.next.place more.separators.forward (holds_inside text more.next.place more.to more.next.token more.holds),
+      holds_solid text more.next.place more.to more.next.token more.holds,
     )
 
 -- after the tokens before a refusal none goes on
@@ -101,10 +101,10 @@ stops_there : (text : List ℕ) (place : ℕ) (refused : RefusedAt text place) (
     → GoesOn text refused.before b refused.end → ⊥
 stops_there text place refused b few more =
     let there : more.next.place ≡ place = one_place text refused.end more.next.place place more.separators refused.separators
-    (stands_solid text more.next.place more.to more.next.token more.stands) refused.here in
+    (holds_solid text more.next.place more.to more.next.token more.holds) refused.here in
     elim refused.cause [
-      | inl none ↦ none_stands text place more.to more.next.token none
-          (subst (λ (p : ℕ). Stands text p more.to more.next.token) there more.stands)
+      | inl none ↦ none_holds text place more.to more.next.token none
+          (subst (λ (p : ℕ). HasToken text p more.to more.next.token) there more.holds)
       | inr full ↦
           let count : length b ≡ length refused.before + length (more.next ∷ more.others) = ap length more.all ∙ length-append refused.before (more.next ∷ more.others) in
           absurd (omega arith)

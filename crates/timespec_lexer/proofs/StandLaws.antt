@@ -9,7 +9,7 @@ use Rattle.std.proofs.lemmas.Grind.{same_number_lists}
 use Rattle.std.proofs.lemmas.List.{get_or_default, get_or_past}
 use Rattle.std.proofs.lemmas.List.Elements.{All-contains}
 use Rattle.timespec_lexer.specs.Keywords.{keywords}
-use Rattle.timespec_lexer.specs.Tokens.{is_separator, mark_of, BeginsNoToken, strange, no_word, long_run, HasWord, IsDigitAt, IsRun, number_at, Stands, StandsNumber}
+use Rattle.timespec_lexer.specs.Tokens.{is_separator, mark_of, BeginsNoToken, strange, no_word, long_run, HasWord, IsDigitAt, IsRun, number_at, HasToken, HasNumber}
 use Rattle.timespec_lexer.proofs.WordLemmas.{IsNoLonger}
 use Rattle.timespec_lexer.specs.declared.number.TheConstants.{MAX_DIGITS}
 use Rattle.timespec_lexer.specs.declared.token.Token.{Token}
@@ -53,18 +53,18 @@ mark_no_letter : (byte : ℕ) (token : Token) → mark_of byte ≡ Some token �
 mark_no_letter byte token mark = colon_or_near is_ascii_alphabetic byte token refl near_no_letter mark
 
 -- the first byte of a number
-first_digit : (text : List ℕ) (from to : ℕ) (token : Token) → StandsNumber text from to token → is_ascii_digit (slice_index text from) ≡ true
+first_digit : (text : List ℕ) (from to : ℕ) (token : Token) → HasNumber text from to token → is_ascii_digit (slice_index text from) ≡ true
 first_digit text from to token number = number.run.each from (omega arith) number.run.some
 
--- where a token stands there is no separator
-pub stands_solid : (text : List ℕ) (from to : ℕ) (token : Token) → Stands text from to token
+-- where a token is there is no separator
+pub holds_solid : (text : List ℕ) (from to : ℕ) (token : Token) → HasToken text from to token
     → is_separator (slice_index text from) ≡ false
-stands_solid text from to token (inl number) = digit_solid (slice_index text from) (first_digit text from to token number)
-stands_solid text from to token (inr (inl mark)) = mark_solid (slice_index text from) token mark.mark
-stands_solid text from to token (inr (inr keyword)) = letter_solid (slice_index text from) keyword.letter
+holds_solid text from to token (inl number) = digit_solid (slice_index text from) (first_digit text from to token number)
+holds_solid text from to token (inr (inl mark)) = mark_solid (slice_index text from) token mark.mark
+holds_solid text from to token (inr (inr keyword)) = letter_solid (slice_index text from) keyword.letter
 
 -- no token begins with the byte 0
-nothing_at_zero : (text : List ℕ) (from to : ℕ) (token : Token) → Stands text from to token → slice_index text from ≡ 0 → ⊥
+nothing_at_zero : (text : List ℕ) (from to : ℕ) (token : Token) → HasToken text from to token → slice_index text from ≡ 0 → ⊥
 nothing_at_zero text from to token (inl number) none = cc (first_digit text from to token number, none)
 nothing_at_zero text from to token (inr (inl mark)) none = cc (mark.mark, ap mark_of none)
 nothing_at_zero text from to token (inr (inr keyword)) none = cc (keyword.letter, ap is_ascii_alphabetic none)
@@ -77,7 +77,7 @@ one_run text from a b short long =
       | inr most ↦ most
     ]
 
--- two words of one length that stand at one place are one
+-- two words of one length that are at one place are one
 one_word : (text : List ℕ) (place : ℕ) (a b : List ℕ) → HasWord text place a → HasWord text place b
     → length a ≡ length b → a ≡ b
 one_word text place a b here there same =
@@ -132,28 +132,28 @@ one_token word a b first second =
     ap (λ (row : List ℕ × Token). row.1) pair
 
 -- the token at a place and its end are one
-pub stands_once : (text : List ℕ) (from to to' : ℕ) (token token' : Token)
-    → Stands text from to token → Stands text from to' token' → (to ≡ to') × (token ≡ token')
-stands_once text from to to' token token' (inl a) (inl b) =
+pub holds_once : (text : List ℕ) (from to to' : ℕ) (token token' : Token)
+    → HasToken text from to token → HasToken text from to' token' → (to ≡ to') × (token ≡ token')
+holds_once text from to to' token token' (inl a) (inl b) =
     let less : to ≤ to' = one_run text from to' to b.run a.run in
     let more : to' ≤ to = one_run text from to to' a.run b.run in
     let same : to ≡ to' = omega arith in
     (same, a.value ∙ ap (λ (end : ℕ). Number (end - from) (number_at text from (end - from))) same ∙ sym b.value)
-stands_once text from to to' token token' (inl a) (inr (inl b)) =
+holds_once text from to to' token token' (inl a) (inr (inl b)) =
     absurd (cc (first_digit text from to token a, mark_no_digit (slice_index text from) token' b.mark))
-stands_once text from to to' token token' (inl a) (inr (inr b)) =
+holds_once text from to to' token token' (inl a) (inr (inr b)) =
     absurd (cc (first_digit text from to token a, letter_no_digit (slice_index text from) b.letter))
-stands_once text from to to' token token' (inr (inl a)) (inl b) =
+holds_once text from to to' token token' (inr (inl a)) (inl b) =
     absurd (cc (first_digit text from to' token' b, mark_no_digit (slice_index text from) token a.mark))
-stands_once text from to to' token token' (inr (inl a)) (inr (inl b)) =
+holds_once text from to to' token token' (inr (inl a)) (inr (inl b)) =
     (a.one ∙ sym b.one, cc (a.mark, b.mark))
-stands_once text from to to' token token' (inr (inl a)) (inr (inr b)) =
+holds_once text from to to' token token' (inr (inl a)) (inr (inr b)) =
     absurd (cc (mark_no_letter (slice_index text from) token a.mark, b.letter))
-stands_once text from to to' token token' (inr (inr a)) (inl b) =
+holds_once text from to to' token token' (inr (inr a)) (inl b) =
     absurd (cc (first_digit text from to' token' b, letter_no_digit (slice_index text from) a.letter))
-stands_once text from to to' token token' (inr (inr a)) (inr (inl b)) =
+holds_once text from to to' token token' (inr (inr a)) (inr (inl b)) =
     absurd (cc (mark_no_letter (slice_index text from) token' b.mark, a.letter))
-stands_once text from to to' token token' (inr (inr a)) (inr (inr b)) =
+holds_once text from to to' token token' (inr (inr a)) (inr (inr b)) =
     let less : length a.word ≤ length b.word = All-contains (IsNoLonger text from (length b.word)) keywords (a.word, token) b.longest.longest a.longest.listed a.longest.here in
     let more : length b.word ≤ length a.word = All-contains (IsNoLonger text from (length a.word)) keywords (b.word, token') a.longest.longest b.longest.listed b.longest.here in
     let same : length a.word ≡ length b.word = omega arith in
@@ -168,28 +168,28 @@ first_of : (text : List ℕ) (from : ℕ) → ((k : ℕ) → k ≤ MAX_DIGITS �
 first_of text from digits = subst (λ (place : ℕ). IsDigitAt text place) (omega arith) (digits 0 (omega arith))
 
 -- where no token begins none stands
-pub none_stands : (text : List ℕ) (from to : ℕ) (token : Token) → BeginsNoToken text from → Stands text from to token → ⊥
-none_stands text from to token (strange digit letter mark) (inl number) = cc (first_digit text from to token number, digit)
-none_stands text from to token (strange digit letter mark) (inr (inl a)) = cc (a.mark, mark)
-none_stands text from to token (strange digit letter mark) (inr (inr keyword)) = cc (keyword.letter, letter)
-none_stands text from to token (no_word letter none) (inl number) = cc (first_digit text from to token number, letter_no_digit (slice_index text from) letter)
-none_stands text from to token (no_word letter none) (inr (inl a)) = cc (mark_no_letter (slice_index text from) token a.mark, letter)
-none_stands text from to token (no_word letter none) (inr (inr keyword)) =
+pub none_holds : (text : List ℕ) (from to : ℕ) (token : Token) → BeginsNoToken text from → HasToken text from to token → ⊥
+none_holds text from to token (strange digit letter mark) (inl number) = cc (first_digit text from to token number, digit)
+none_holds text from to token (strange digit letter mark) (inr (inl a)) = cc (a.mark, mark)
+none_holds text from to token (strange digit letter mark) (inr (inr keyword)) = cc (keyword.letter, letter)
+none_holds text from to token (no_word letter none) (inl number) = cc (first_digit text from to token number, letter_no_digit (slice_index text from) letter)
+none_holds text from to token (no_word letter none) (inr (inl a)) = cc (mark_no_letter (slice_index text from) token a.mark, letter)
+none_holds text from to token (no_word letter none) (inr (inr keyword)) =
     All-contains (λ row. ¬ HasWord text from row.0) keywords (keyword.word, token) none keyword.longest.listed keyword.longest.here
-none_stands text from to token (long_run digits) (inl number) =
+none_holds text from to token (long_run digits) (inl number) =
     let within : to - from ≤ MAX_DIGITS = omega (arith, number.few) in
     let there : from + (to - from) ≡ to = omega (arith, number.run.some) in
     let digit : IsDigitAt text to = subst (λ (place : ℕ). IsDigitAt text place) there (digits (to - from) within) in
     cc (digit, number.run.whole)
-none_stands text from to token (long_run digits) (inr (inl a)) =
+none_holds text from to token (long_run digits) (inr (inl a)) =
     cc (first_of text from digits, mark_no_digit (slice_index text from) token a.mark)
-none_stands text from to token (long_run digits) (inr (inr keyword)) =
+none_holds text from to token (long_run digits) (inr (inr keyword)) =
     cc (first_of text from digits, letter_no_digit (slice_index text from) keyword.letter)
 
 -- a token stands within its text
-pub stands_inside : (text : List ℕ) (from to : ℕ) (token : Token) → Stands text from to token → from < length text
-stands_inside text from to token stands =
+pub holds_inside : (text : List ℕ) (from to : ℕ) (token : Token) → HasToken text from to token → from < length text
+holds_inside text from to token holds =
     elim (cases_lt from (length text)) [
       | inl less ↦ less
-      | inr past ↦ absurd (nothing_at_zero text from to token stands (get_or_past text from 0 past))
+      | inr past ↦ absurd (nothing_at_zero text from to token holds (get_or_past text from 0 past))
     ]

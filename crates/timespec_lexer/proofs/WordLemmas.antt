@@ -15,7 +15,7 @@ use Rattle.timespec_lexer.specs.declared.found.Found.{Found}
 abbrev pub IsNoLonger : List ℕ → ℕ → ℕ → List ℕ × Token → Type 0
 IsNoLonger text place count row = HasWord text place row.0 → length row.0 ≤ count
 
--- a row whose word does not stand there changes nothing
+-- a row whose word does not are there changes nothing
 pub best_past : (text : List ℕ) (place : ℕ) (table : WordTable) (best : Option Found) (word : List ℕ) (token : Token)
     → IsLongestMatch text place table best → ¬ HasWord text place word
     → IsLongestMatch text place (table ++ (word, token) ∷ []) best
@@ -45,7 +45,7 @@ this_row text place table word token end here reach others = (
   reach,
 )
 
--- the farther one of the best so far and of a row whose word stands there is the best with that row
+-- the farther one of the best so far and of a row whose word is there is the best with that row
 pub best_more : (text : List ℕ) (place : ℕ) (table : WordTable) (best : Option Found) (word : List ℕ) (found next : Found)
     → IsLongestMatch text place table best → HasWord text place word → found.end ≡ place + length word
     → IfNone best (next ≡ found)

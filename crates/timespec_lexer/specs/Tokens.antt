@@ -65,37 +65,37 @@ pub record IsLongest (text : List ℕ) (place : ℕ) (table : WordTable) (word :
 abbrev pub HasNoWord : List ℕ → ℕ → WordTable → Type 0
 HasNoWord text place table = All (λ row. ¬ HasWord text place row.0) table
 
--- a number stands from one place up to another
-pub record StandsNumber (text : List ℕ) (from to : ℕ) (token : Token) : Type 0 where
+-- a number goes from one place up to another
+pub record HasNumber (text : List ℕ) (from to : ℕ) (token : Token) : Type 0 where
   pub run : IsRun text from to
   pub few : to ≤ from + MAX_DIGITS
   pub value : token ≡ Number (to - from) (number_at text from (to - from))
 
--- a mark stands from one place up to another
-pub record StandsMark (text : List ℕ) (from to : ℕ) (token : Token) : Type 0 where
+-- a mark goes from one place up to another
+pub record HasMark (text : List ℕ) (from to : ℕ) (token : Token) : Type 0 where
   pub mark : mark_of (slice_index text from) ≡ Some token
   pub one : to ≡ from + 1
 
--- a keyword stands from one place up to another, and no longer one begins there
-pub record StandsKeyword (text : List ℕ) (from to : ℕ) (token : Token) : Type 0 where
+-- a keyword goes from one place up to another, and no longer one begins there
+pub record HasKeyword (text : List ℕ) (from to : ℕ) (token : Token) : Type 0 where
   pub letter : IsTrue (is_ascii_alphabetic (slice_index text from))
   pub word : List ℕ
   pub longest : IsLongest text from keywords word token
   pub all : to ≡ from + length word
 
--- the token stands from one place up to another
-abbrev pub Stands : List ℕ → ℕ → ℕ → Token → Type 0
-Stands text from to token =
-    StandsNumber text from to token
-    ⊎ (StandsMark text from to token
-    ⊎ StandsKeyword text from to token)
+-- the token goes from one place up to another
+abbrev pub HasToken : List ℕ → ℕ → ℕ → Token → Type 0
+HasToken text from to token =
+    HasNumber text from to token
+    ⊎ (HasMark text from to token
+    ⊎ HasKeyword text from to token)
 
--- the tokens stand in turn from one place up to another, with only separators between them
+-- the tokens are in turn from one place up to another, with only separators between them
 abbrev pub Walks : List ℕ → ℕ → List Placed → ℕ → Type 0
 Walks text from [] to = from ≡ to
 Walks text from (first ∷ others) to =
     AreSeparators text from first.place
-    × (end : ℕ) × Stands text first.place end first.token × Walks text end others to
+    × (end : ℕ) × HasToken text first.place end first.token × Walks text end others to
 
 -- the whole text is these tokens, and separators
 pub record Tokenizes (text : List ℕ) (placed : List Placed) : Type 0 where

@@ -1,6 +1,6 @@
 //! The tokens of a text, one after another.
 ghost use Rattle.std.specs.Prelude.{◌≡◌, ◌<◌, ◌≤◌, length, slice_index, false, IfOk, IfErr, IfSome, IfNone};
-ghost use Rattle.timespec_lexer.specs.Tokens.{is_separator, mark_of, AreSeparators, BeginsNoToken, IsOnlyReading, IsOnlyRefusal, RefusedAt, Stands, StandsMark, Tokenizes};
+ghost use Rattle.timespec_lexer.specs.Tokens.{is_separator, mark_of, AreSeparators, BeginsNoToken, IsOnlyReading, IsOnlyRefusal, RefusedAt, HasToken, HasMark, Tokenizes};
 
 use crate::found::Found;
 use crate::number::number_at;
@@ -55,7 +55,7 @@ fn skip_separators(text: &[u8], from: usize) -> usize
 // The token that begins at a place.
 fn token_at(text: &[u8], place: usize) -> Option<Found>
     requires { place < length text.now }
-    ensures token { IfSome result (λ found. Stands text.now place found.end found.token) }
+    ensures token { IfSome result (λ found. HasToken text.now place found.end found.token) }
     ensures forward { IfSome result (λ found. place < found.end) }
     ensures within { IfSome result (λ found. found.end ≤ length text.now) }
     ensures none { IfNone result (BeginsNoToken text.now place) }
@@ -73,7 +73,7 @@ fn token_at(text: &[u8], place: usize) -> Option<Found>
 // The mark at a place.
 fn mark_at(text: &[u8], place: usize) -> Option<Found>
     requires { place < length text.now }
-    ensures mark { IfSome result (λ found. StandsMark text.now place found.end found.token) }
+    ensures mark { IfSome result (λ found. HasMark text.now place found.end found.token) }
     ensures none { IfNone result (mark_of (slice_index text.now place) ≡ None) }
 {
     let token = mark_of(text[place])?;

@@ -1,6 +1,6 @@
 //! Numbers.
 ghost use Rattle.std.specs.Prelude.{◌+◌, ◌<◌, ◌≤◌, ℕ, length, IfSome, IfNone};
-ghost use Rattle.timespec_lexer.specs.Tokens.{IsDigitAt, StandsNumber};
+ghost use Rattle.timespec_lexer.specs.Tokens.{IsDigitAt, HasNumber};
 
 use crate::Token;
 use crate::found::Found;
@@ -12,7 +12,7 @@ const MAX_DIGITS: usize = 9;
 pub fn number_at(text: &[u8], place: usize) -> Option<Found>
     requires digit { IsDigitAt text.now place }
     requires inside { place < length text.now }
-    ensures number { IfSome result (λ found. StandsNumber text.now place found.end found.token) }
+    ensures number { IfSome result (λ found. HasNumber text.now place found.end found.token) }
     ensures within { IfSome result (λ found. found.end ≤ length text.now) }
     ensures long { IfNone result ((k : ℕ) → k ≤ MAX_DIGITS → IsDigitAt text.now (place + k)) }
 {

@@ -55,7 +55,7 @@ fn longer_of(longest: Option<Found>, found: Found) -> Found
     }
 }
 
-// Whether the word, in lower case, stands at the place.
+// Whether the word, in lower case, is at the place.
 fn has_word(text: &[u8], place: usize, word: &[u8]) -> bool
     requires { place ≤ length text.now }
     ensures { IsTrue result ↔ HasWord text.now place word.now }

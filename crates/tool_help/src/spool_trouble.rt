@@ -23,7 +23,7 @@ pub enum SpoolTrouble {
     ReadOnly,
     /// The path belongs to another user.
     OtherUser,
-    /// The path beside the spool is a link.
+    /// The path next to the spool is a link.
     Link,
     /// None of these.
     Unknown,

@@ -7,7 +7,7 @@ use Rattle.std.proofs.lemmas.Option.{none-some}
 use Rattle.std.specs.Int.{IsInRange, is_in_range}
 use Rattle.touch_time.specs.inside.Reader.{read_within, read_short_year, read_full_year, read_year, is_last_number, is_seconds}
 use Rattle.touch_time.specs.Touch.{two_digits, SpellsYear, no_year, short_year, full_year, SpellsSeconds, no_seconds, some_seconds}
-use Rattle.text_reader.specs.Reading.{Read, two_digits_in}
+use Rattle.text_reader.specs.ReadResult.{Read, two_digits_in}
 use Rattle.text_reader.proofs.OptionLemmas.{cond_some, and_then_some, same_pair}
 
 pub read_within_complete : (low high number : ℕ) (rest : List ℕ) → IsInRange low high number → high ≤ 99 → read_within low high (two_digits number ++ rest) ≡ Some (number, rest)

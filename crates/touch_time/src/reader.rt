@@ -1,7 +1,7 @@
 //! The parts of a time, one after another. Each function reads the prefix of a slice, and gives the
 //! value and the rest.
 ghost use Rattle.std.specs.Prelude.{◌≡◌, ◌≤◌, IfSome};
-ghost use Rattle.text_reader.specs.Reading.{read_view};
+ghost use Rattle.text_reader.specs.ReadResult.{read_view};
 ghost use Rattle.touch_time.specs.inside.Reader as Reader;
 
 use crate::TouchTime;

@@ -13,7 +13,7 @@ below_count (suc count) child is = elim (Contains-push_cases (first_children cou
   | inr last ↦ omega (arith, ap (λ (one : Child). one.id) last)
 ]
 
--- one child more
+-- one more child
 pub one_more : (count longer id : ℕ) → longer ≡ count + 1 → id ≡ count → first_children longer ≡ first_children count ++ record { id = id } ∷ []
 one_more count longer id is last =
     let next : longer ≡ suc count = omega (arith, is) in

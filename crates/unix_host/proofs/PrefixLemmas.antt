@@ -10,12 +10,12 @@ use Rattle.std.proofs.lemmas.Bool.{and_parts}
 use Rattle.std.proofs.lemmas.Bool.Decides.{nat_tests}
 use Rattle.std.proofs.lemmas.Grind.{pow_more}
 use Rattle.std.proofs.lemmas.List.{get_or-append_right, get_or-drop, get_or-map, get_or-replicate, get_or-take, get_or_append_left, get_or_past, length-map, length-take-le}
-use Rattle.host_calls.specs.Folder.{name_cmp}
+use Rattle.host_calls.specs.Directory.{name_cmp}
 use Rattle.host_calls.specs.Names.{is_name_byte, are_name_bytes}
 use Rattle.unix_host.specs.inside.Prefixes.{prefix_number}
 use Rattle.unix_host.proofs.PathLemmas.{is_ascii}
 
--- a digit and what stands below it are less than the next digit with zeros
+-- a digit and what is below it are less than the next digit with zeros
 below_next : (digit next worth rest : ℕ) → digit < next → rest < worth → digit * worth + rest < next * worth
 below_next digit next worth rest less below =
     omega (arith, add-mul digit 1 worth, mul-le-mul_right {m = digit + 1} {n = next} worth (omega arith))

@@ -1,4 +1,4 @@
--- What a session keeps of the folder's listing (own).
+-- What a session keeps of the directory's listing (own).
 use Rattle.std.specs.Prelude.{◌+◌, ◌-◌, ℕ, List, map, min, slice_range}
 use Rattle.unix_host.specs.declared.listed_files.Listed.{Listed}
 use Rattle.unix_host.specs.declared.listing.Listing.{Listing}
@@ -15,7 +15,7 @@ head_in heads file = slice_range heads file.start file.end
 abbrev pub count_from : ℕ → ℕ → ℕ → ℕ
 count_from size offset most = min most (size - offset)
 
--- what the folder gave of a listed file from an offset on when it was listed, or so many bytes of it at most
+-- what the directory gave of a listed file from an offset on when it was listed, or so many bytes of it at most
 abbrev pub listed_bytes : Listing → Listed → ℕ → ℕ → List ℕ
 listed_bytes listing file offset most =
     slice_range (head_in listing.heads.items file) offset (offset + count_from file.length offset most)

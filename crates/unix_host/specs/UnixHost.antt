@@ -1,4 +1,4 @@
--- What a spool folder on a disk tells of itself (own).
+-- What a spool directory on a disk tells of itself (own).
 use Rattle.std.specs.Prelude.{[], ℕ, List, map, is_some, slice_get, vec_len, Option, option_and_then, option_map}
 use Rattle.std.specs.Process.{child_status}
 use Rattle.host_calls.specs.Session.{Session}
@@ -15,7 +15,7 @@ use Rattle.unix_host.specs.declared.unsynced.Unsynced.{Unsynced}
 abbrev pub unix_session : {R A B C D E F G : Type 0} → UnixHost R A B C D E F G → Session
 unix_session host =
     record {
-      inside = is_some host.folder;
+      inside = is_some host.directory;
       children = first_children (vec_len host.kids);
       made_as = [];
       file_faults = host.counts.files;
@@ -33,16 +33,16 @@ ending_in host id = option_map ending_for (option_and_then (λ kid. child_status
 
 -- within a session, the worst that may be unsynced
 abbrev pub unsynced_of : {R A B C D E F G : Type 0} → UnixHost R A B C D E F G → Option Unsynced
-unsynced_of host = option_map (λ folder. unsynced_by folder.changes) host.folder
+unsynced_of host = option_map (λ directory. unsynced_by directory.changes) host.directory
 
 -- within a session, the file whose bytes may be unsynced, where it is one alone
 abbrev pub torn_file : {R A B C D E F G : Type 0} → UnixHost R A B C D E F G → Option (List ℕ)
-torn_file host = option_and_then (λ folder. torn_alone folder.changes.torn) host.folder
+torn_file host = option_and_then (λ directory. torn_alone directory.changes.torn) host.directory
 
 -- within a session, what the byte of the lock says of it
 abbrev pub known_unsynced : {R A B C D E F G : Type 0} → UnixHost R A B C D E F G → Option Unsynced
-known_unsynced host = option_map (λ folder. folder.lock.known) host.folder
+known_unsynced host = option_map (λ directory. directory.lock.known) host.directory
 
 -- within a session, the names of the kept listing
 abbrev pub listed_names : {R A B C D E F G : Type 0} → UnixHost R A B C D E F G → Option (List (List ℕ))
-listed_names host = option_map names_in (option_and_then (λ folder. folder.listing) host.folder)
+listed_names host = option_map names_in (option_and_then (λ directory. directory.listing) host.directory)

@@ -1,4 +1,4 @@
--- What of a spool folder may be unsynced, as far as the host knows (own).
+-- What of a spool directory may be unsynced, as far as the host knows (own).
 use Rattle.std.specs.Prelude.{if◌then◌else◌, ℕ, List, Bool, true, false, Option, Some, None}
 use Rattle.unix_host.specs.declared.changes.Changes.{Changes}
 use Rattle.unix_host.specs.declared.torn.Torn.{Torn}

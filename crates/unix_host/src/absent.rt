@@ -1,9 +1,9 @@
-//! What a session does where there is no spool folder.
+//! What a session does where there is no spool directory.
 
-/// What entering does where there is no spool folder.
+/// What entering does where there is no spool directory.
 #[derive(Clone, Copy, Debug, PartialEq, Eq)]
 pub enum Absent {
-    /// It makes the folder, and that of outputs.
+    /// It makes the directory, and that of outputs.
     Makes,
     /// It fails, and makes neither.
     Fails,

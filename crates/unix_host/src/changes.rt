@@ -15,7 +15,7 @@ use crate::torn::Torn;
 use crate::unsynced::Unsynced;
 use host_calls::Name;
 
-/// What of the folder may be unsynced at one moment of a session. Each method answers what may be after a call.
+/// What of the directory may be unsynced at one moment of a session. Each method answers what may be after a call.
 #[derive(Clone, Copy)]
 pub struct Changes {
     names: bool,
@@ -105,7 +105,7 @@ impl Changes {
 
     /// The bytes of a file were synced.
     pub fn synced(&self, paths: &Paths, name: &Name, file: Synced<'_>) -> Changes
-        requires { file.path.now ≡ file_in (string_bytes paths.now.folder) name.now }
+        requires { file.path.now ≡ file_in (string_bytes paths.now.directory) name.now }
         ensures names { result.names ≡ self.now.names }
         ensures torn { HasWhole name.now self.now.torn result.torn }
         ensures failed { result.has_failed ≡ self.now.has_failed }
@@ -118,7 +118,7 @@ impl Changes {
         }
     }
 
-    /// The bytes of each listed file were synced, and the name of the folder itself.
+    /// The bytes of each listed file were synced, and the name of the directory itself.
     pub fn all_synced(
         &self,
         listing: &Option<Listing>,
@@ -140,12 +140,12 @@ impl Changes {
     }
 
     /// The names were synced.
-    pub fn names_synced(&self, paths: &Paths, folder: Synced<'_>) -> Changes
-        requires { folder.path.now ≡ string_bytes paths.now.folder }
+    pub fn names_synced(&self, paths: &Paths, directory: Synced<'_>) -> Changes
+        requires { directory.path.now ≡ string_bytes paths.now.directory }
         ensures { result ≡ record self.now { names = false } }
     {
         let _ = paths;
-        drop(folder);
+        drop(directory);
         Changes {
             names: false,
             ..*self

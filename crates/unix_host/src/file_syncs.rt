@@ -1,4 +1,4 @@
-//! The syncs of a folder's files.
+//! The syncs of a directory's files.
 ghost use Rattle.std.specs.Prelude.{◌≡◌, IfOk, length};
 
 use crate::files;
@@ -9,7 +9,7 @@ use host_calls::{HostFault, Name};
 use std::alloc::Global;
 use std::fs::{File, Files};
 
-/// Makes the bytes of a file certain, if it is a plain one.
+/// Syncs a file, if it is a plain one.
 pub fn sync_file<'a, R: Files<File = File>>(rt: &R, path: &'a str) -> Result<Synced<'a>, HostFault>
     ensures path { IfOk result (λ synced. synced.path.now ≡ path.now) }
 {
@@ -33,7 +33,7 @@ pub fn sync_written<'a, R: Files<File = File>>(
     sync_file(rt, path)
 }
 
-/// Makes the bytes of each of these files certain, the last first.
+/// Syncs the bytes of each of these files, the last first.
 pub fn sync_each_file<'a, R: Files<File = File>>(
     rt: &R,
     alloc: Global,
@@ -46,7 +46,7 @@ pub fn sync_each_file<'a, R: Files<File = File>>(
 {
     let mut files = FilesLeft::all(paths, names);
     while let Some((name, left)) = files.last() {
-        // Files after it may be synced, so want of memory is a failure here.
+        // Files after it may be synced, so an out-of-memory error is a failure here.
         let Ok(path) = paths.file(alloc, name) else {
             return Err(HostFault::Failed);
         };

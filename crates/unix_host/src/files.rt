@@ -1,4 +1,4 @@
-//! What a folder holds. Only plain files are opened, so that a FIFO blocks nobody and a link leads nowhere.
+//! What a directory holds. Only plain files are opened, so that a FIFO blocks nobody and a link leads nowhere.
 ghost use Rattle.std.specs.Prelude.{◌≡◌, ◌≢◌, ◌≤◌, IfOk, length, vec_len};
 ghost use Rattle.unix_host.specs.Listings.{count_from};
 ghost use Rattle.std.specs.IoError.{error_kind};
@@ -20,9 +20,9 @@ use std::{fs, io};
 // How many bytes of names are read at a time. The longest name has 255, and none is cut.
 const NAMES: usize = 4096;
 
-/// Where the spool folder lies, which is made where it is absent, unless that is to be a fault. What lies beside it is
-/// named by the folder's own path, that no link is in, so that one folder has one lock.
-pub fn enter_folder<R: Files<File = File> + Env>(
+/// Where the spool directory lies, which is made where it is absent, unless that is to be a fault. What lies next to
+/// it is named by the directory's own path, that no link is in, so that one directory has one lock.
+pub fn enter_directory<R: Files<File = File> + Env>(
     rt: &R,
     alloc: Global,
     spool: &str,
@@ -31,11 +31,11 @@ pub fn enter_folder<R: Files<File = File> + Env>(
 ) -> Result<Paths, EnterFault> {
     match absent {
         Absent::Makes => create_spool_and_output(rt, alloc, spool, absent, naming),
-        Absent::Fails => find_folder(rt, alloc, spool, naming),
+        Absent::Fails => find_directory(rt, alloc, spool, naming),
     }
 }
 
-// The spool folder and the folder of outputs, which are made where they are absent.
+// The spool directory and the directory of outputs, which are made where they are absent.
 fn create_spool_and_output<R: Files<File = File> + Env>(
     rt: &R,
     alloc: Global,
@@ -52,15 +52,15 @@ fn create_spool_and_output<R: Files<File = File> + Env>(
     let Ok(has_new_outputs) = create_spool(rt, paths.outputs(), absent) else {
         return Err(EnterFault::Failed);
     };
-    // A submission that is acknowledged is not to vanish with the folder.
+    // A submission that is acknowledged is not to vanish with the directory.
     if (is_new || has_new_outputs) && sync_path(rt, paths.parent()).is_err() {
         return Err(EnterFault::Failed);
     }
     Ok(paths)
 }
 
-// The spool folder, if it is there.
-fn find_folder<R: Files + Env>(
+// The spool directory, if it exists.
+fn find_directory<R: Files + Env>(
     rt: &R,
     alloc: Global,
     spool: &str,
@@ -72,7 +72,7 @@ fn find_folder<R: Files + Env>(
     resolved(rt, alloc, spool, naming)
 }
 
-// Whether the folder is new. Only its owner may look into it. A host of a folder that is there can't call it.
+// Whether the directory is new. Only its owner may look into it. A host of a directory that exists can't call it.
 fn create_spool<R: Files>(rt: &R, path: &str, absent: Absent) -> io::Result<bool>
     requires { absent ≡ Absent.Makes }
 {
@@ -99,33 +99,33 @@ fn is_spool_directory<R: Files>(rt: &R, path: &str) -> bool {
     }
 }
 
-// The root is no spool folder: nothing lies beside it.
+// The root is no spool directory: nothing lies next to it.
 fn resolved<R: Files + Env>(
     rt: &R,
     alloc: Global,
     spool: &str,
     naming: Naming,
 ) -> Result<Paths, EnterFault> {
-    let folder = match rt.canonicalize(alloc, spool) {
-        Ok(folder) => folder,
+    let directory = match rt.canonicalize(alloc, spool) {
+        Ok(directory) => directory,
         Err(error) if error.kind() == ErrorKind::OutOfMemory => return Err(EnterFault::Memory),
         Err(_) => return Err(EnterFault::Failed),
     };
-    match folder.parent() {
-        Some(parent) if folder.is_absolute() => {
-            let base = base_of(rt, folder.as_str(), spool, naming);
-            Ok(Paths::of(alloc, folder.as_str(), base, parent.as_str())?)
+    match directory.parent() {
+        Some(parent) if directory.is_absolute() => {
+            let base = base_of(rt, directory.as_str(), spool, naming);
+            Ok(Paths::of(alloc, directory.as_str(), base, parent.as_str())?)
         }
         _ => Err(EnterFault::Failed),
     }
 }
 
-// By what the files of the folder are reached: by its own path, or as those of the current directory. A spool that is named by
-// a relative path would be another one at the next session.
-fn base_of<'a, R: Env>(rt: &R, folder: &'a str, spool: &str, naming: Naming) -> &'a str {
+// By what the files of the directory are reached: by its own path, or as those of the current directory. A spool that is named
+// by a relative path would be another one at the next session.
+fn base_of<'a, R: Env>(rt: &R, directory: &'a str, spool: &str, naming: Naming) -> &'a str {
     match naming {
-        Naming::Current if spool.starts_with('/') && rt.set_current_dir(folder).is_ok() => ".",
-        Naming::Current | Naming::Whole => folder,
+        Naming::Current if spool.starts_with('/') && rt.set_current_dir(directory).is_ok() => ".",
+        Naming::Current | Naming::Whole => directory,
     }
 }
 
@@ -136,12 +136,12 @@ pub fn list_files<R: Files<File = File>>(
     paths: &Paths,
     most: usize,
 ) -> Result<Listing, HostFault> {
-    let mut folder = rt.open_dir(paths.folder()).map_err(host_fault_of)?;
+    let mut directory = rt.open_dir(paths.directory()).map_err(host_fault_of)?;
     let mut found = FoundFiles::none(alloc);
     let mut head = vec![in alloc; 0; most]?;
     let mut names = [0; NAMES];
     for _ in 0..u64::MAX {
-        let count = folder.read(&mut names).map_err(host_fault_of)?;
+        let count = directory.read(&mut names).map_err(host_fault_of)?;
         if count == 0 {
             return Ok(Listing::of(alloc, found)?);
         }
@@ -186,7 +186,7 @@ fn add_plain_file<R: Files<File = File>>(
     Ok(())
 }
 
-// How many first bytes of a plain file stand in the buffer: as many as it has room for, or none where they can't be read.
+// How many first bytes of a plain file are in the buffer: as many as it has room for, or none where they can't be read.
 fn read_head<R: Files<File = File>>(rt: &R, path: &str, size: u64, head: &mut [u8]) -> usize
     ensures { result ≤ length head.new }
 {
@@ -200,7 +200,7 @@ fn read_head<R: Files<File = File>>(rt: &R, path: &str, size: u64, head: &mut [u
     }
 }
 
-// Nothing was done where a list could not be made for want of memory.
+// Nothing was done where a list could not be made for lack of memory.
 fn host_fault_of(error: io::Error) -> HostFault
     ensures memory { error_kind error ≡ ErrorKind.OutOfMemory → result ≡ HostFault.Memory }
     ensures failed { error_kind error ≢ ErrorKind.OutOfMemory → result ≡ HostFault.Failed }

@@ -1,4 +1,4 @@
-//! The files of a folder that are still to be synced. None is left out but against what its sync handed out.
+//! The files of a directory that are still to be synced. None is left out but against what its sync handed out.
 ghost use Rattle.std.specs.Prelude.{◌≡◌, ◌++◌, ◌∷◌, [], MatchOption, length, string_bytes};
 ghost use Rattle.std.specs.List.{IsLastAndRest};
 ghost use Rattle.unix_host.specs.inside.Paths.{file_in};
@@ -7,7 +7,7 @@ use crate::paths::Paths;
 use crate::synced::Synced;
 use host_calls::Name;
 
-/// The files of a folder that were listed, and those of them that are still to be synced.
+/// The files of a directory that were listed, and those of them that are still to be synced.
 #[derive(Drop)]
 pub struct FilesLeft<'a> {
     paths: &'a Paths,
@@ -40,7 +40,7 @@ impl<'a> FilesLeft<'a> {
     /// Those before the last, which was synced.
     pub fn before(self, left: &'a [Name], last: &Name, file: Synced<'_>) -> FilesLeft<'a>
         requires last { self.left.now ≡ left.now ++ last.now ∷ [] }
-        requires synced { file.path.now ≡ file_in (string_bytes self.paths.now.folder) last.now }
+        requires synced { file.path.now ≡ file_in (string_bytes self.paths.now.directory) last.now }
         ensures paths { result.paths.now ≡ self.entry.paths.now }
         ensures listed { result.listed.now ≡ self.entry.listed.now }
         ensures left { result.left.now ≡ left.now }

@@ -2,13 +2,13 @@
 ghost use Rattle.std.specs.Prelude.{◌≡◌, true, IsErrOf, OnErr, OnOk};
 ghost use Rattle.host_calls.specs.Causes.{HasCause};
 
-use crate::locked::LockedFolder;
+use crate::locked::LockedDirectory;
 use host_calls::HostFault;
 use witnessed_host::FaultCounts;
 
 /// After a call on the files: where it failed, that is kept account of and counted.
 pub fn finish<T>(
-    folder: &mut LockedFolder,
+    directory: &mut LockedDirectory,
     counts: &mut FaultCounts,
     answer: Result<T, HostFault>,
 ) -> Result<T, HostFault>
@@ -17,12 +17,12 @@ pub fn finish<T>(
     ensures starts { counts.new.starts ≡ counts.old.starts }
     ensures taken { counts.new.taken ≡ counts.old.taken }
     ensures quiet { ¬ (IsErrOf result HostFault.Failed) → counts.new.files ≡ counts.old.files }
-    ensures listing { folder.new.listing ≡ folder.old.listing }
-    ensures ok { OnOk answer (folder.new.changes ≡ folder.old.changes) }
-    ensures failed { OnErr answer (folder.new.changes ≡ record folder.old.changes { has_failed = true }) }
+    ensures listing { directory.new.listing ≡ directory.old.listing }
+    ensures ok { OnOk answer (directory.new.changes ≡ directory.old.changes) }
+    ensures failed { OnErr answer (directory.new.changes ≡ record directory.old.changes { has_failed = true }) }
 {
     if answer.is_err() {
-        folder.fail();
+        directory.fail();
     }
     counts.file_call(answer)
 }

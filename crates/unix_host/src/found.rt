@@ -1,4 +1,4 @@
-//! The plain files that are found in a folder, before they are in order.
+//! The plain files that are found in a directory, before they are in order.
 ghost use Rattle.std.specs.Prelude.{◌≡◌, ◌++◌, [], OnOk};
 ghost use Rattle.unix_host.specs.inside.Found.{HasFound};
 

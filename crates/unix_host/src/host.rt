@@ -1,17 +1,17 @@
-//! A spool folder on a disk.
+//! A spool directory on a disk.
 ghost use Rattle.std.specs.Prelude.{◌≡◌, ◌≢◌, ◌≤◌, [], false, Contains, IsErrOf, IsSome, IsSorted, IfOk, IfSome, OnOk, Ok, None, Some, slice_get, vec_len};
 ghost use Rattle.host_calls.specs.Causes.{HasCause, Rose};
-ghost use Rattle.host_calls.specs.Folder.{name_cmp};
+ghost use Rattle.host_calls.specs.Directory.{name_cmp};
 ghost use Rattle.host_calls.specs.Session.{IsInside, IsLeft, IsOutside, CallsInside, Enters, Starts, StaysInside};
 ghost use Rattle.unix_host.specs.Counted.{CountsEnters, CountsFiles, CountsNothing, CountsStarts};
 ghost use Rattle.unix_host.specs.declared.unsynced.Unsynced.{Unsynced};
 ghost use Rattle.unix_host.specs.UnixHost.{ending_in, listed_names, starts_of, unix_session, known_unsynced, torn_file, unsynced_of};
-ghost use Rattle.witnessed_host.specs.Nothing.{empty_world};
+ghost use Rattle.witnessed_host.specs.EmptyWorld.{empty_world};
 
 use crate::absent::Absent;
 use crate::finish::finish;
 use crate::job::{ChildProcess, JobStart, ending_of};
-use crate::locked::LockedFolder;
+use crate::locked::LockedDirectory;
 use crate::naming::Naming;
 use crate::waits::Waits;
 use crate::{job, read_file};
@@ -22,7 +22,7 @@ use std::process::Processes;
 use std::rt::Runtime;
 use witnessed_host::FaultCounts;
 
-/// A spool folder on a disk, its lock and the children that were started from it.
+/// A spool directory on a disk, its lock and the children that were started from it.
 #[derive(Drop)]
 pub struct UnixHost<R: Runtime<File = File> + Processes> {
     pub(crate) rt: R,
@@ -31,7 +31,7 @@ pub struct UnixHost<R: Runtime<File = File> + Processes> {
     pub(crate) naming: Naming,
     pub(crate) waits: Waits,
     pub(crate) head: usize,
-    pub(crate) folder: Option<LockedFolder>,
+    pub(crate) directory: Option<LockedDirectory>,
     pub(crate) kids: Vec<ChildProcess<R>>,
     pub(crate) counts: FaultCounts,
 }
@@ -43,7 +43,7 @@ impl<R: Runtime<File = File> + Processes> Host for UnixHost<R> {
 
     ghost session = { unix_session };
 
-    // It tells nothing, and no clause says anything of this.
+    // It exposes nothing, and no clause says anything of this.
     ghost world = { λ _. empty_world };
 
     fn enter(&mut self, alloc: Global) -> Result<(), EnterFault>
@@ -57,7 +57,7 @@ impl<R: Runtime<File = File> + Processes> Host for UnixHost<R> {
         ensures known { OnOk result (unsynced_of self.new ≡ known_unsynced self.new) }
         ensures unlisted { OnOk result (listed_names self.new ≡ None) }
     {
-        let entered = LockedFolder::enter(
+        let entered = LockedDirectory::enter(
             &self.rt,
             alloc,
             self.spool.as_str(),
@@ -66,8 +66,8 @@ impl<R: Runtime<File = File> + Processes> Host for UnixHost<R> {
             self.waits,
         );
         match entered {
-            Ok(folder) => {
-                self.folder = Some(folder);
+            Ok(directory) => {
+                self.directory = Some(directory);
                 Ok(())
             }
             Err(fault) => self.counts.enter_call(Err(fault)),
@@ -79,8 +79,8 @@ impl<R: Runtime<File = File> + Processes> Host for UnixHost<R> {
         ensures left { IsLeft (unix_session self.old) (unix_session self.new) }
         ensures counts { CountsNothing (unix_session self.old) (unix_session self.new) }
     {
-        if let Some(folder) = self.folder.take() {
-            folder.leave();
+        if let Some(directory) = self.directory.take() {
+            directory.leave();
         }
     }
 
@@ -92,9 +92,9 @@ impl<R: Runtime<File = File> + Processes> Host for UnixHost<R> {
         ensures kept { IfOk result (λ names. IfSome (listed_names self.old) (λ kept. names.items ≡ kept)) }
         ensures keeps { IfOk result (λ names. listed_names self.new ≡ Some names.items) }
     {
-        let folder = self.folder.as_mut().unwrap();
-        let answer = folder.names(&self.rt, alloc, self.head);
-        finish(folder, &mut self.counts, answer)
+        let directory = self.directory.as_mut().unwrap();
+        let answer = directory.names(&self.rt, alloc, self.head);
+        finish(directory, &mut self.counts, answer)
     }
 
     fn length(&mut self, alloc: Global, name: &Name) -> Result<u64, HostFault>
@@ -102,9 +102,9 @@ impl<R: Runtime<File = File> + Processes> Host for UnixHost<R> {
         ensures inside { CallsInside HostFault.Failed (unix_session self.old) (unix_session self.new) result }
         ensures counts { CountsFiles (unix_session self.old) (unix_session self.new) result }
     {
-        let folder = self.folder.as_mut().unwrap();
-        let answer = read_file::length(folder, &self.rt, alloc, name);
-        finish(folder, &mut self.counts, answer)
+        let directory = self.directory.as_mut().unwrap();
+        let answer = read_file::length(directory, &self.rt, alloc, name);
+        finish(directory, &mut self.counts, answer)
     }
 
     fn read(
@@ -119,9 +119,9 @@ impl<R: Runtime<File = File> + Processes> Host for UnixHost<R> {
         ensures counts { CountsFiles (unix_session self.old) (unix_session self.new) result }
         ensures few { IfOk result (λ bytes. vec_len bytes ≤ most) }
     {
-        let folder = self.folder.as_mut().unwrap();
-        let answer = read_file::read_file(folder, &self.rt, alloc, name, offset, most);
-        finish(folder, &mut self.counts, answer)
+        let directory = self.directory.as_mut().unwrap();
+        let answer = read_file::read_file(directory, &self.rt, alloc, name, offset, most);
+        finish(directory, &mut self.counts, answer)
     }
 
     fn create(&mut self, alloc: Global, name: &Name, bytes: &[u8]) -> Result<(), HostFault>
@@ -133,9 +133,9 @@ impl<R: Runtime<File = File> + Processes> Host for UnixHost<R> {
             → torn_file self.new ≡ Some name.now) }
         ensures unlisted { OnOk result (listed_names self.new ≡ None) }
     {
-        let folder = self.folder.as_mut().unwrap();
-        let answer = folder.create(&self.rt, alloc, name, bytes);
-        finish(folder, &mut self.counts, answer)
+        let directory = self.directory.as_mut().unwrap();
+        let answer = directory.create(&self.rt, alloc, name, bytes);
+        finish(directory, &mut self.counts, answer)
     }
 
     fn write(
@@ -153,9 +153,9 @@ impl<R: Runtime<File = File> + Processes> Host for UnixHost<R> {
             → torn_file self.new ≡ Some name.now) }
         ensures unlisted { OnOk result (listed_names self.new ≡ None) }
     {
-        let folder = self.folder.as_mut().unwrap();
-        let answer = folder.write(&self.rt, alloc, name, offset, bytes);
-        finish(folder, &mut self.counts, answer)
+        let directory = self.directory.as_mut().unwrap();
+        let answer = directory.write(&self.rt, alloc, name, offset, bytes);
+        finish(directory, &mut self.counts, answer)
     }
 
     fn sync(&mut self, alloc: Global, name: &Name) -> Result<(), HostFault>
@@ -165,9 +165,9 @@ impl<R: Runtime<File = File> + Processes> Host for UnixHost<R> {
         ensures synced { OnOk result (torn_file self.old ≡ Some name.now
             → unsynced_of self.new ≢ Some Unsynced.Anything) }
     {
-        let folder = self.folder.as_mut().unwrap();
-        let answer = folder.sync(&self.rt, alloc, name);
-        finish(folder, &mut self.counts, answer)
+        let directory = self.directory.as_mut().unwrap();
+        let answer = directory.sync(&self.rt, alloc, name);
+        finish(directory, &mut self.counts, answer)
     }
 
     fn sync_names(&mut self, alloc: Global) -> Result<(), HostFault>
@@ -177,9 +177,9 @@ impl<R: Runtime<File = File> + Processes> Host for UnixHost<R> {
         ensures synced { OnOk result (unsynced_of self.new ≢ Some Unsynced.Names) }
     {
         let _ = alloc;
-        let folder = self.folder.as_mut().unwrap();
-        let answer = folder.sync_names(&self.rt);
-        finish(folder, &mut self.counts, answer)
+        let directory = self.directory.as_mut().unwrap();
+        let answer = directory.sync_names(&self.rt);
+        finish(directory, &mut self.counts, answer)
     }
 
     fn settle(&mut self, alloc: Global) -> Result<(), HostFault>
@@ -188,9 +188,9 @@ impl<R: Runtime<File = File> + Processes> Host for UnixHost<R> {
         ensures counts { CountsFiles (unix_session self.old) (unix_session self.new) result }
         ensures settled { OnOk result (unsynced_of self.new ≡ Some Unsynced.Nothing) }
     {
-        let folder = self.folder.as_mut().unwrap();
-        let answer = folder.settle(&self.rt, alloc);
-        finish(folder, &mut self.counts, answer)
+        let directory = self.directory.as_mut().unwrap();
+        let answer = directory.settle(&self.rt, alloc);
+        finish(directory, &mut self.counts, answer)
     }
 
     fn rename(&mut self, alloc: Global, from: &Name, to: &Name) -> Result<(), HostFault>
@@ -200,9 +200,9 @@ impl<R: Runtime<File = File> + Processes> Host for UnixHost<R> {
         ensures unsynced { OnOk result (unsynced_of self.new ≢ Some Unsynced.Nothing) }
         ensures unlisted { OnOk result (listed_names self.new ≡ None) }
     {
-        let folder = self.folder.as_mut().unwrap();
-        let answer = folder.rename(&self.rt, alloc, from, to);
-        finish(folder, &mut self.counts, answer)
+        let directory = self.directory.as_mut().unwrap();
+        let answer = directory.rename(&self.rt, alloc, from, to);
+        finish(directory, &mut self.counts, answer)
     }
 
     fn remove(&mut self, alloc: Global, name: &Name) -> Result<(), HostFault>
@@ -212,9 +212,9 @@ impl<R: Runtime<File = File> + Processes> Host for UnixHost<R> {
         ensures unsynced { OnOk result (unsynced_of self.new ≢ Some Unsynced.Nothing) }
         ensures unlisted { OnOk result (listed_names self.new ≡ None) }
     {
-        let folder = self.folder.as_mut().unwrap();
-        let answer = folder.remove(&self.rt, alloc, name);
-        finish(folder, &mut self.counts, answer)
+        let directory = self.directory.as_mut().unwrap();
+        let answer = directory.remove(&self.rt, alloc, name);
+        finish(directory, &mut self.counts, answer)
     }
 
     fn start(
@@ -234,8 +234,8 @@ impl<R: Runtime<File = File> + Processes> Host for UnixHost<R> {
     {
         // The name alone tells which job it is.
         let _ = number;
-        let folder = self.folder.as_mut().unwrap();
-        folder.close_written();
+        let directory = self.directory.as_mut().unwrap();
+        directory.close_written();
         // Room first, so that no child is lost that was started.
         if let Err(_) = self.kids.reserve(1) {
             return self.counts.start_call(Err(StartFault::Failed));
@@ -243,7 +243,7 @@ impl<R: Runtime<File = File> + Processes> Host for UnixHost<R> {
         let started = job::start(
             &self.rt,
             alloc,
-            folder.paths(),
+            directory.paths(),
             JobStart { name: *name, nice },
         );
         let kid = self.counts.start_call(started)?;

@@ -2,7 +2,7 @@
 ghost use Rattle.std.specs.Prelude.{◌≡◌, ◌≤◌, [], false, IfOk, IsErrOf, length};
 ghost use Rattle.host_calls.specs.Causes.{HasCause};
 ghost use Rattle.host_calls.specs.Inputs.{after_read};
-ghost use Rattle.witnessed_host.specs.Nothing.{no_contents};
+ghost use Rattle.witnessed_host.specs.EmptyWorld.{no_contents};
 
 use crate::prefix::read_prefix;
 use host_calls::{Bytes, InputFault, Inputs};

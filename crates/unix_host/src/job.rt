@@ -22,12 +22,13 @@ const LINE: &str = "{ command : >\"$3\"; } 2>/dev/null || \
     { printf '%s: no output file %s\\n' \"$0\" \"$3\" >&2; set -- \"$1\" \"$2\" /dev/null; }; \
     exec nice -n \"$1\" env -i /bin/sh \"$2\" >\"$3\" 2>&1 </dev/null";
 
-// How often a start is tried that finds no memory or no process, and how many milliseconds the system is given in between.
+// How often a start is tried that runs out of memory or no process, and how many milliseconds the system is given in
+// between.
 const TRIES: u32 = 4;
 
 const PAUSE: u64 = 100;
 
-/// What a start asks for: the job by the name of its file, and how nice it is to be.
+/// What a start requests: the job by the name of its file, and how nice it is to be.
 #[derive(Clone, Copy)]
 pub struct JobStart {
     pub name: Name,
@@ -41,8 +42,8 @@ pub struct ChildProcess<R: Processes> {
     pub started_as: JobStart,
 }
 
-/// Starts a job of the folder with these paths. Its mark is durable by then, so want of memory is a failed start too: the job
-/// has not begun, and the turn that goes on can say so.
+/// Starts a job of the directory with these paths. Its mark is durable by then, so an out-of-memory error is a failed start
+/// too: the job has not begun, and the turn that goes on can say so.
 pub fn start<R: Processes + Clock>(
     rt: &R,
     alloc: Global,
@@ -130,7 +131,7 @@ fn add_words(command: &mut Command, words: &[&str]) -> Result<(), AllocError>
         ≡ command_args command.old ++ map (λ word. word.now) words.now) }
     ensures program { OnOk result (command_program command.new ≡ command_program command.old) }
     ensures env { OnOk result (SameEnv command.old command.new) }
-    ensures folder { OnOk result (SameDir command.old command.new) }
+    ensures directory { OnOk result (SameDir command.old command.new) }
 {
     command.args(words)?;
     Ok(())

@@ -1,7 +1,7 @@
 //! Files in the byte order of their names.
 ghost use Rattle.std.specs.Prelude.{◌≡◌, Contains, IfSome, IfOk, IsTrue, IsPermutation, IsSorted, IsSortedByKey, map, not};
 ghost use Rattle.std.specs.Ordering.{is_lt};
-ghost use Rattle.host_calls.specs.Folder.{name_cmp};
+ghost use Rattle.host_calls.specs.Directory.{name_cmp};
 ghost use Rattle.host_calls.specs.Names.{are_name_bytes};
 ghost use Rattle.unix_host.specs.inside.Prefixes.{prefix_number};
 
@@ -22,7 +22,7 @@ pub struct Listed {
 #[derive(Drop)]
 pub struct ListedFiles {
     files: Vec<Listed>,
-    // The place after that of the file that was asked for last: most are asked for in order.
+    // The place after that of the file that was requested last: most are requested in order.
     next: Cell<usize>,
     ghost ordered: { IsSortedByKey (λ file. file.name) name_cmp files.items },
 }
@@ -48,7 +48,7 @@ impl ListedFiles {
         self.files.iter().map(|file| file.name).collect(alloc)
     }
 
-    /// The file of this name, if it is there.
+    /// The file of this name, if it exists.
     pub fn find(&self, name: &Name) -> Option<&Listed>
         ensures held { IfSome result (λ file. Contains self.now.files.items file.now) }
         ensures named { IfSome result (λ file. file.now.name ≡ name.now) }
@@ -75,7 +75,7 @@ impl ListedFiles {
     }
 }
 
-// A file beside the first sixteen bytes of its name, as a number that is less where they come before.
+// A file next to the first sixteen bytes of its name, as a number that is less where they come before.
 #[derive(Clone, Copy)]
 struct Prefixed<'a> {
     prefix: u128,
@@ -85,7 +85,7 @@ struct Prefixed<'a> {
 }
 
 // The files in the order of their names. A file is long, and lies anywhere: what is sorted are references, by the prefixes of
-// the names, which stand beside them.
+// the names, which are next to them.
 fn in_order<'a>(alloc: Global, files: &'a [Listed]) -> Result<Vec<Prefixed<'a>>, AllocError>
     ensures found { IfOk result (λ order. IsPermutation files.now (map (λ one. one.file.now) order.items)) }
     ensures ordered { IfOk result (λ order. IsSortedByKey (λ one. one.file.now.name) name_cmp order.items) }

@@ -1,6 +1,6 @@
-//! What a folder holds at one moment of a session.
+//! What a directory holds at one moment of a session.
 ghost use Rattle.std.specs.Prelude.{◌≡◌, Contains, IfSome, IfOk, IsPermutation, IsSorted, length};
-ghost use Rattle.host_calls.specs.Folder.{name_cmp};
+ghost use Rattle.host_calls.specs.Directory.{name_cmp};
 ghost use Rattle.unix_host.specs.Listings.{count_from, listed_bytes, names_in};
 
 use crate::found::FoundFiles;
@@ -8,7 +8,7 @@ use crate::listed_files::{Listed, ListedFiles};
 use host_calls::Name;
 use std::alloc::{AllocError, Global};
 
-/// The plain files of a folder, and the first bytes of each, one after the other.
+/// The plain files of a directory, and the first bytes of each, one after the other.
 #[derive(Drop)]
 pub struct Listing {
     listed: ListedFiles,
@@ -34,7 +34,7 @@ impl Listing {
         self.listed.names(alloc)
     }
 
-    /// The file of this name, if it is there.
+    /// The file of this name, if it exists.
     pub fn find(&self, name: &Name) -> Option<&Listed>
         ensures held { IfSome result (λ file. Contains self.now.listed.files.items file.now) }
         ensures named { IfSome result (λ file. file.now.name ≡ name.now) }

@@ -1,22 +1,22 @@
-//! The two locks of a session, and the byte beside the directory that says whether anything is unsynced.
+//! The two locks of a session, and the byte next to the directory that says whether anything is unsynced.
 //!
 //! A session holds the file `SPOOL.lock`, and the directory itself: whoever comes by another path, or after the file was
 //! removed, finds the directory locked. Both are had or neither, and only where both are still what their paths name.
 //!
 //! `SPOOL.lock` holds one byte, which is read and written only under the locks:
 //!
-//! - `c`: nothing of the folder is unsynced;
+//! - `c`: nothing of the directory is unsynced;
 //! - `n`: only changes of names are unsynced;
 //! - any other byte, or none: anything may be unsynced.
 //!
 //! In which order it is written:
 //!
-//! 1. Before a call that changes the folder, it is made to say at least what is unsynced after that call.
+//! 1. Before a call that changes the directory, it is made to say at least what is unsynced after that call.
 //! 2. After a sync it may say less, but a session writes that only as it ends, in `leave`.
 //! 3. Where any call of a session failed, `leave` writes the worst.
 //!
 //! So at each moment the byte, as programs see it, says at least what is unsynced, and `settle` need sync no
-//! more than it says. No byte that says less can be written: `write_byte` asks for it. Why each crash is safe:
+//! more than it says. No byte that says less can be written: `write_byte` requests it. Why each crash is safe:
 //!
 //! - A program that is killed leaves the byte as it was last written, which is at least what it left unsynced.
 //!   The cache of the system still holds both the byte and the changes, so the next program sees both.
@@ -24,8 +24,8 @@
 //!   and no byte can say too little. This is why the byte itself is never synced. An old byte that says too
 //!   much costs syncs, and nothing else.
 //!
-//! What it doesn't cover: a program that changes the folder without the locks; a copy of the folder that is put in its place
-//! with its lock file; and a second path to the folder, which has a lock file and a byte of its own.
+//! What it doesn't cover: a program that changes the directory without the locks; a copy of the directory that is put in its
+//! place with its lock file; and a second path to the directory, which has a lock file and a byte of its own.
 ghost use Rattle.std.specs.Prelude.{◌≡◌, ◌≤◌, OnOk, OnErr};
 ghost use Rattle.unix_host.specs.inside.Changes.{unsynced_left_by};
 ghost use Rattle.unix_host.specs.declared.lock_files.LockPlace.{LockPlace};

@@ -12,7 +12,7 @@ use std::os::unix::fs::{MetadataExt, OpenOptionsExt};
 /// What a session locks.
 #[derive(Clone, Copy, Debug, PartialEq, Eq)]
 pub enum LockPlace {
-    /// The file beside the directory.
+    /// The file next to the directory.
     Beside,
     /// The directory itself.
     Within,
@@ -103,7 +103,7 @@ impl LockedFile {
     }
 }
 
-/// Tries the lock of the file beside the directory, and then that of the directory.
+/// Tries the lock of the file next to the directory, and then that of the directory.
 pub fn try_both(beside: LockFile, within: LockFile) -> Result<BothLocks, EnterFault>
     ensures { IfOk result (λ both. AreBoth beside.place within.place both) }
 {

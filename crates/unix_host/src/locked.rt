@@ -1,9 +1,9 @@
-//! A spool folder under its lock. Whatever changes the folder stands here, and so does all that makes it certain.
+//! A spool directory under its lock. Whatever changes the directory is here, and so does all that syncs it.
 //!
 //! A change is made only once the byte of the lock says at least what may be unsynced after it, since its
 //! program may be killed at any moment. What may be unsynced is forgotten after the sync of it alone.
 ghost use Rattle.std.specs.Prelude.{◌≡◌, ◌≢◌, ◌≤◌, Contains, IsSorted, IsTrue, IfOk, IfSome, OnOk, OnErr, None, Some, true, false, length, option_map, string_bytes, vec_len};
-ghost use Rattle.host_calls.specs.Folder.{name_cmp};
+ghost use Rattle.host_calls.specs.Directory.{name_cmp};
 ghost use Rattle.unix_host.specs.Listings.{count_from, listed_bytes, names_in};
 ghost use Rattle.unix_host.specs.Unsynced.{unsynced_by};
 ghost use Rattle.unix_host.specs.inside.Changes.{unsynced_left_by, Remembers};
@@ -33,9 +33,9 @@ use std::time::Clock;
 // How often a session enters anew that finds another directory, or another lock, by the time it has the locks.
 const ENTRIES: u32 = 100;
 
-/// A spool folder, its lock, and what of the folder may be unsynced.
+/// A spool directory, its lock, and what of the directory may be unsynced.
 #[derive(Drop)]
-pub struct LockedFolder {
+pub struct LockedDirectory {
     pub(crate) paths: Paths,
     lock: Lock,
     changes: Changes,
@@ -45,9 +45,9 @@ pub struct LockedFolder {
     ghost known: { amount_of (unsynced_by changes) ≤ amount_of lock.known },
 }
 
-impl LockedFolder {
-    /// Takes the locks of the folder, which is made where it is absent, unless that is to be a fault. It is entered anew where
-    /// its path names another one by the time they are had, as where it was replaced meanwhile.
+impl LockedDirectory {
+    /// Takes the locks of the directory, which is made where it is absent, unless that is to be a fault. It is entered anew
+    /// where its path names another one by the time they are had, as where it was replaced meanwhile.
     pub fn enter<R: Files<File = File> + Env + Clock + Eprint>(
         rt: &R,
         alloc: Global,
@@ -55,29 +55,29 @@ impl LockedFolder {
         absent: Absent,
         naming: Naming,
         waits: Waits,
-    ) -> Result<LockedFolder, EnterFault>
-        ensures known { IfOk result (λ folder. unsynced_by folder.changes ≡ folder.lock.known) }
-        ensures left { IfOk result (λ folder. unsynced_left_by folder.changes ≡ folder.lock.known) }
-        ensures unlisted { IfOk result (λ folder. folder.listing ≡ None) }
+    ) -> Result<LockedDirectory, EnterFault>
+        ensures known { IfOk result (λ directory. unsynced_by directory.changes ≡ directory.lock.known) }
+        ensures left { IfOk result (λ directory. unsynced_left_by directory.changes ≡ directory.lock.known) }
+        ensures unlisted { IfOk result (λ directory. directory.listing ≡ None) }
     {
         let mut waiting = Waiting::begun(waits);
         for _ in 0..ENTRIES {
-            let paths = files::enter_folder(rt, alloc, spool, absent, naming)?;
+            let paths = files::enter_directory(rt, alloc, spool, absent, naming)?;
             if let Some(lock) = Lock::take(rt, &paths, &mut waiting)? {
-                return Ok(LockedFolder::locked(paths, lock));
+                return Ok(LockedDirectory::locked(paths, lock));
             }
         }
         Err(EnterFault::Taken)
     }
 
-    // The folder as a session finds it that has just taken its locks.
-    fn locked(paths: Paths, lock: Lock) -> LockedFolder
+    // The directory as a session finds it that has just taken its locks.
+    fn locked(paths: Paths, lock: Lock) -> LockedDirectory
         ensures known { unsynced_by result.changes ≡ result.lock.known }
         ensures left { unsynced_left_by result.changes ≡ result.lock.known }
         ensures unlisted { result.listing ≡ None }
     {
         let changes = Changes::after(&lock);
-        LockedFolder {
+        LockedDirectory {
             paths,
             lock,
             changes,
@@ -88,7 +88,7 @@ impl LockedFolder {
 
     /// Tells the next session what is left, and lets the lock go.
     pub fn leave(self) {
-        let LockedFolder {
+        let LockedDirectory {
             paths: _,
             lock,
             changes,
@@ -163,7 +163,7 @@ impl LockedFolder {
         drop(self.written.take());
     }
 
-    /// Moves a file to another name, and replaces what stands there.
+    /// Moves a file to another name, and replaces what is there.
     pub fn rename<R: Files>(
         &mut self,
         rt: &R,
@@ -196,7 +196,7 @@ impl LockedFolder {
         file_calls::remove_name(self, rt, path.as_str(), name)
     }
 
-    /// Makes the bytes of a file certain.
+    /// Syncs a file.
     pub fn sync<R: Files<File = File>>(
         &mut self,
         rt: &R,
@@ -215,18 +215,18 @@ impl LockedFolder {
         Ok(())
     }
 
-    /// Makes the names certain.
+    /// Syncs the names.
     pub fn sync_names<R: Files<File = File>>(&mut self, rt: &R) -> Result<(), HostFault>
         ensures ok { OnOk result (self.new.changes ≡ record self.old.changes { names = false }) }
         ensures synced { OnOk result (unsynced_by self.new.changes ≢ Unsynced.Names) }
         ensures err { OnErr result (self.new.changes ≡ self.old.changes) }
     {
-        let folder = sync_path(rt, self.paths.folder())?;
-        self.changes = self.changes.names_synced(&self.paths, folder);
+        let directory = sync_path(rt, self.paths.directory())?;
+        self.changes = self.changes.names_synced(&self.paths, directory);
         Ok(())
     }
 
-    /// Makes all certain that may be unsynced.
+    /// Syncs all that may be unsynced.
     pub fn settle<R: Runtime<File = File>>(
         &mut self,
         rt: &R,
@@ -245,7 +245,7 @@ impl LockedFolder {
         }
     }
 
-    // Makes the bytes of each file certain, and the name of the folder itself.
+    // Syncs each file, and the name of the directory itself.
     fn sync_files<R: Runtime<File = File>>(
         &mut self,
         rt: &R,
@@ -256,7 +256,7 @@ impl LockedFolder {
     {
         let names = self.names(rt, alloc, 0)?;
         let files = file_syncs::sync_each_file(rt, alloc, &self.paths, &names)?;
-        // The folder may be as new as a lock file that says nothing.
+        // The directory may be as new as a lock file that says nothing.
         let parent = sync_path(rt, self.paths.parent())?;
         self.changes = self.changes.all_synced(&self.listing, files, parent);
         Ok(())

@@ -1,16 +1,16 @@
 //! What a session knows of the directory by its listing, which is kept until the directory is changed.
 ghost use Rattle.std.specs.Prelude.{◌≡◌, Contains, IsSorted, IfOk, IfSome, Some, length, option_map};
-ghost use Rattle.host_calls.specs.Folder.{name_cmp};
+ghost use Rattle.host_calls.specs.Directory.{name_cmp};
 ghost use Rattle.unix_host.specs.Listings.{count_from, listed_bytes, names_in};
 
 use crate::files;
 use crate::listed_files::Listed;
-use crate::locked::LockedFolder;
+use crate::locked::LockedDirectory;
 use host_calls::{HostFault, Name};
 use std::alloc::Global;
 use std::fs::{File, Files};
 
-impl LockedFolder {
+impl LockedDirectory {
     /// The names of the plain files, in byte order: those of the kept listing, where there is one.
     pub fn names<R: Files<File = File>>(
         &mut self,

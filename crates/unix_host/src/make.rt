@@ -1,4 +1,4 @@
-//! The two ways in which the host of a spool folder is made.
+//! The two ways in which the host of a spool directory is made.
 ghost use Rattle.std.specs.Prelude.{◌≡◌, [], None, IfOk};
 ghost use Rattle.host_calls.specs.Session.{IsOutside};
 ghost use Rattle.unix_host.specs.UnixHost.{unix_session};
@@ -15,7 +15,7 @@ use std::rt::Runtime;
 use witnessed_host::FaultCounts;
 
 impl<R: Runtime<File = File> + Processes> UnixHost<R> {
-    /// The host of this folder, which a session makes where it is absent. It touches no file.
+    /// The host of this directory, which a session makes where it is absent. It touches no file.
     pub fn make(rt: R, alloc: Global, spool: Text) -> Result<UnixHost<R>, AllocError>
         ensures outside { IfOk result (λ made. IsOutside (unix_session made)) }
         ensures children { IfOk result (λ made. (unix_session made).children ≡ []) }
@@ -27,7 +27,8 @@ impl<R: Runtime<File = File> + Processes> UnixHost<R> {
         Ok(host_of(rt, alloc, spool, Absent::Makes))
     }
 
-    /// The host of a folder that is there: a session fails where it is absent, and makes nothing. It touches no file.
+    /// The host of a directory that exists: a session fails where it is absent, and makes nothing. It touches no
+    /// file.
     pub fn existing(rt: R, alloc: Global, spool: Text) -> Result<UnixHost<R>, AllocError>
         ensures outside { IfOk result (λ made. IsOutside (unix_session made)) }
         ensures children { IfOk result (λ made. (unix_session made).children ≡ []) }
@@ -46,7 +47,7 @@ impl<R: Runtime<File = File> + Processes> UnixHost<R> {
         UnixHost { head, ..self }
     }
 
-    /// The same host, whose first session makes the folder the current directory of the process.
+    /// The same host, whose first session makes the directory the current directory of the process.
     pub fn moving(self) -> UnixHost<R>
         ensures naming { result.naming ≡ Naming.Current }
         ensures others { record result { naming = self.naming } ≡ self }
@@ -72,7 +73,7 @@ fn host_of<R: Runtime<File = File> + Processes>(
     spool: Text,
     absent: Absent,
 ) -> UnixHost<R>
-    ensures folder { result.folder ≡ None }
+    ensures directory { result.directory ≡ None }
     ensures kids { result.kids.items ≡ [] }
     ensures spool { result.spool ≡ spool }
     ensures absent { result.absent ≡ absent }
@@ -86,7 +87,7 @@ fn host_of<R: Runtime<File = File> + Processes>(
         naming: Naming::Whole,
         waits: Waits::Asking,
         head: 0,
-        folder: None,
+        directory: None,
         kids: Vec::new(alloc),
         counts: FaultCounts {
             files: 0,

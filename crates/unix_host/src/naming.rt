@@ -1,10 +1,10 @@
-//! How the files of a spool folder are named.
+//! How the files of a spool directory are named.
 
-/// How a session names the files of its folder.
+/// How a session names the files of its directory.
 #[derive(Clone, Copy, Debug, PartialEq, Eq)]
 pub enum Naming {
     /// By whole paths.
     Whole,
-    /// As those of the current directory, which is the folder from the first session on.
+    /// As those of the current directory, which is the directory from the first session on.
     Current,
 }

@@ -34,18 +34,19 @@ impl<R: Files<File = File> + Clock + Drop> UnixReadings<R> {
         }
     }
 
-    /// The same, whose rests end at a full second of the clock, and earlier where one of these files of a folder has changed
-    /// since the clock was read. The path of the folder is absolute, since a session may change the current directory.
+    /// The same, whose rests end at a full second of the clock, and earlier where one of these files of a directory has
+    /// changed since the clock was read. The path of the directory is absolute, since a session may change the current
+    /// directory.
     pub fn watching(
         rt: R,
         alloc: Global,
-        folder: &str,
+        directory: &str,
         names: &[Name],
     ) -> Result<UnixReadings<R>, AllocError>
-        requires { IsAbsolute folder.now }
+        requires { IsAbsolute directory.now }
         ensures { IfOk result (λ made. made.load_faults ≡ 0) }
     {
-        let watch = Some(Watch::over(&rt, alloc, folder, names)?);
+        let watch = Some(Watch::over(&rt, alloc, directory, names)?);
         Ok(UnixReadings {
             rt,
             watch,

@@ -6,13 +6,13 @@ use host_calls::HostFault;
 use std::fs::{File, Files, OpenFile, OpenOptions};
 use std::os::unix::fs::FileExt;
 
-/// The path of a file or a folder that was synced.
+/// The path of a file or a directory that was synced.
 #[derive(Drop)]
 pub struct Synced<'a> {
     path: &'a str,
 }
 
-/// Syncs a file's bytes, or a folder's names.
+/// Syncs a file's bytes, or a directory's names.
 pub fn sync_path<'a, R: Files<File = File>>(rt: &R, path: &'a str) -> Result<Synced<'a>, HostFault>
     ensures path { IfOk result (λ synced. synced.path.now ≡ path.now) }
 {

@@ -1,8 +1,8 @@
-//! How much of the folder may be unsynced.
+//! How much of the directory may be unsynced.
 ghost use Rattle.std.specs.Prelude.{◌≡◌, ◌↔◌, ◌≤◌, IsTrue};
 ghost use Rattle.unix_host.specs.inside.LockByte.{known_by, meaning_of, amount_of};
 
-/// What of the folder may be unsynced, the least first.
+/// What of the directory may be unsynced, the least first.
 #[derive(Clone, Copy, Debug, PartialEq, Eq)]
 pub enum Unsynced {
     Nothing,

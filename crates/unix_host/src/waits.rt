@@ -8,7 +8,7 @@ use std::env::Env;
 use std::time::{Clock, Duration};
 use std::{str, thread};
 
-// How often a lock is asked for, a second apart, before it counts as taken.
+// How often a lock is tried, a second apart, before it counts as taken.
 const TRIES: u32 = 10;
 
 // How many naps there are: of 1, 2, 4 and 8 milliseconds, and then of 10, they last five minutes together.
@@ -22,9 +22,9 @@ const NAPS_ELSEWHERE: u32 = 6_002;
 /// How a session waits for a lock that another session holds.
 #[derive(Clone, Copy, Debug, PartialEq, Eq)]
 pub enum Waits {
-    /// It asks ten times, a second apart.
+    /// It tries ten times, a second apart.
     Asking,
-    /// Before that it asks for five minutes, between naps of a few milliseconds. After one of them a line says so.
+    /// Before that it tries for five minutes, between naps of a few milliseconds. After one of them a line says so.
     Napping,
     /// The same, with a line after three seconds.
     NappingOnTerminal,

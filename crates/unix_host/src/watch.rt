@@ -23,18 +23,18 @@ pub struct Watch {
 }
 
 impl Watch {
-    /// A watch over these files of a folder, which have all been looked at.
+    /// A watch over these files of a directory, which have all been looked at.
     pub fn over<R: Files<File = File> + Clock>(
         rt: &R,
         alloc: Global,
-        folder: &str,
+        directory: &str,
         names: &[Name],
     ) -> Result<Watch, AllocError>
-        requires { IsAbsolute folder.now }
+        requires { IsAbsolute directory.now }
     {
         let mut files = Vec::with_capacity(alloc, names.len())?;
         for name in names {
-            files.push(WatchedFile::at(file_path(alloc, folder, name)?))?;
+            files.push(WatchedFile::at(file_path(alloc, directory, name)?))?;
         }
         let mut watch = Watch {
             files,

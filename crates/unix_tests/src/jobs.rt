@@ -18,7 +18,7 @@ fn what_a_job_writes_lands_in_its_file(rt: HostRuntime) -> Result<(), Fail> {
     try_spool(&rt, "hi", ":", &[&calls], IN_ITS_FILE, wanted)
 }
 
-// The place of its output is taken by a folder. The script makes a file in the spool, prints, and exits with 3.
+// The place of its output is taken by a directory. The script makes a file in the spool, prints, and exits with 3.
 const WITHOUT_OUTPUT: &str = "mkdir -p \"$1\" \"$1.out/job\"; \
     echo \"echo hi; echo ho >&2; : >'$1/ran'; exit 3\" >\"$1/job\"";
 

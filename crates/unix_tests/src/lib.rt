@@ -7,7 +7,7 @@
 #[cfg(test)]
 mod calls;
 #[cfg(test)]
-mod folders;
+mod directories;
 #[cfg(test)]
 mod jobs;
 #[cfg(test)]

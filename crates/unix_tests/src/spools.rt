@@ -1,4 +1,4 @@
-//! What is seen of spools, each over one host of its folder.
+//! What is seen of spools, each over one host of its directory.
 ghost use Rattle.std.specs.Prelude.{IfOk};
 ghost use Rattle.host_calls.specs.Session.{IsOutside};
 ghost use Rattle.unix_host.specs.UnixHost.{unix_session};
@@ -10,7 +10,7 @@ use std::cell::Cell;
 use std::test::Fail;
 use unix_host::UnixHost;
 
-/// What is seen of a spool by the host of its folder.
+/// What is seen of a spool by the host of its directory.
 pub fn seen_at(
     rt: &HostRuntime,
     path: &str,
@@ -23,14 +23,14 @@ pub fn seen_at(
     seen
 }
 
-// A host that keeps eight bytes of each file, and makes its folder the current directory.
+// A host that keeps eight bytes of each file, and makes its directory the current directory.
 fn moving_host(rt: &HostRuntime, path: &str) -> Result<UnixHost<HostRuntime>, Fail>
     ensures outside { IfOk result (λ host. IsOutside (unix_session host)) }
 {
     Ok(host_of(rt, path)?.keeping(8).moving())
 }
 
-/// The same by a host that keeps eight bytes of each file, and makes its folder the current directory.
+/// The same by a host that keeps eight bytes of each file, and makes its directory the current directory.
 pub fn seen_moving(
     rt: &HostRuntime,
     path: &str,
@@ -43,7 +43,7 @@ pub fn seen_moving(
     seen
 }
 
-/// The same in one session of the spool in this folder, where the path with that end is one of a device.
+/// The same in one session of the spool in this directory, where the path with that end is one of a device.
 pub fn seen_refused(
     rt: &HostRuntime,
     place: &str,
@@ -102,7 +102,7 @@ pub fn try_moving(
     are_wanted(rt, test, seen.as_slice(), wanted)
 }
 
-/// The same of a spool in a folder that the first line makes, where the path with that end is one of a device.
+/// The same of a spool in a directory that the first line makes, where the path with that end is one of a device.
 pub fn try_refused(
     rt: &HostRuntime,
     test: &str,

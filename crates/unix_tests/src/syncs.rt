@@ -3,10 +3,10 @@ use crate::calls::Call::{Read, Run, Settle, Sync, SyncNames, Write};
 use crate::spools::try_refused;
 use std::test::Fail;
 
-/// Makes a spool with one file and the folder of its outputs, in a folder of its own.
+/// Makes a spool with one file and the directory of its outputs, in a directory of its own.
 const MADE: &str = "mkdir -p \"$1/spool\" \"$1/spool.out\"; : >\"$1/spool/job\"";
 
-// The file, the folder or the folder that it lies in can't be synced: each call that says it did fails then.
+// The file, the directory or the directory that it lies in can't be synced: each call that says it did fails then.
 #[test]
 fn a_sync_that_is_refused_is_a_fault(rt: HostRuntime) -> Result<(), Fail> {
     let calls = [Sync("job"), SyncNames, Settle];
@@ -29,9 +29,9 @@ fn a_sync_after_a_write_opens_nothing(rt: HostRuntime) -> Result<(), Fail> {
     try_refused(&rt, "kept_open", MADE, ("/spool/job", 1), &calls, ";;!;")
 }
 
-// A new folder would vanish with its name.
+// A new directory would vanish with its name.
 #[test]
-fn a_new_folder_that_cannot_be_made_certain_is_a_fault(rt: HostRuntime) -> Result<(), Fail> {
+fn a_new_directory_that_cannot_be_made_durable_is_a_fault(rt: HostRuntime) -> Result<(), Fail> {
     try_refused(&rt, "vanished", "mkdir \"$1\"", ("_vanished", 0), &[], "!")
 }
 

@@ -10,7 +10,7 @@ use std::test::Fail;
 use std::time::{Clock, Duration};
 use unix_host::Waits;
 
-/// What a host is answered that enters a folder, twice.
+/// What a host is answered that enters a directory, twice.
 type Answers = (Result<(), EnterFault>, Result<(), EnterFault>);
 
 // How a session begins, which is left at once.
@@ -23,7 +23,7 @@ fn entered<H: Host>(alloc: Global, host: &mut H) -> Result<(), EnterFault>
     Ok(())
 }
 
-// What a second host of the folder is answered while the first one is in its session, and after that.
+// What a second host of the directory is answered while the first one is in its session, and after that.
 fn answers_of_both<F: Host, S: Host>(
     alloc: Global,
     first: &mut F,
@@ -53,7 +53,7 @@ fn answers_beside<F: Host>(
     answers
 }
 
-// The same beside a host of this folder, and how long it takes.
+// The same next to a host of this directory, and how long it takes.
 fn answers_in_time(rt: &HostRuntime, path: &str, link: &str) -> Result<(Answers, Duration), Fail> {
     let before = rt.monotonic()?;
     let mut first = host_of(rt, path)?;
@@ -63,8 +63,8 @@ fn answers_in_time(rt: &HostRuntime, path: &str, link: &str) -> Result<(Answers,
     Ok((answers?, waited))
 }
 
-// A spool and a link to it are one folder, with one lock. It is asked for ten times, by the system's clock: this waits for
-// nine seconds.
+// A spool and a link to it are one directory, with one lock. It is requested ten times, by the system's clock: this waits
+// for nine seconds.
 #[test]
 fn a_host_is_refused_while_another_holds_the_lock(rt: HostRuntime) -> Result<(), Fail> {
     let path = fresh_spool(&rt, "taken")?;
@@ -100,8 +100,8 @@ fn naps_end_too(rt: HostRuntime) -> Result<(), Fail> {
     Ok(())
 }
 
-// Who comes while another is in a session finds the directory locked, also after the file beside it was removed. Its own file
-// is a new one, so it knows nothing of what is unsynced.
+// Who comes while another is in a session finds the directory locked, also after the file next to it was removed. Its own
+// file is a new one, so it knows nothing of what is unsynced.
 #[test]
 fn a_lock_that_was_removed_still_keeps_others_out(rt: HostRuntime) -> Result<(), Fail> {
     let path = fresh_spool(&rt, "unlinked")?;

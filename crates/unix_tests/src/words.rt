@@ -1,4 +1,4 @@
-//! What the tests are written in. Each test has a folder of its own.
+//! What the tests are written in. Each test has a directory of its own.
 ghost use Rattle.std.specs.Prelude.{◌≡◌, is_ok, IfOk};
 ghost use Rattle.host_calls.specs.Session.{IsOutside};
 ghost use Rattle.unix_host.specs.UnixHost.{unix_session};
@@ -24,7 +24,7 @@ fn printed(rt: &HostRuntime, command: &mut Command, words: &[&str]) -> io::Resul
     Ok(command.output(rt)?.stdout)
 }
 
-/// The path of a folder that no other test has, and that isn't there.
+/// The path of a directory that no other test has, and that isn't there.
 pub fn fresh_spool(rt: &HostRuntime, test: &str) -> Result<String, Fail> {
     let own = process::id(rt.process());
     let path = format!(in rt.alloc(); "/tmp/unix_host_{own}_{test}")?;
@@ -32,20 +32,20 @@ pub fn fresh_spool(rt: &HostRuntime, test: &str) -> Result<String, Fail> {
     Ok(path)
 }
 
-/// Removes a folder and what lies beside it.
+/// Removes a directory and what lies next to it.
 pub fn clear(rt: &HostRuntime, path: &str) -> Result<(), Fail> {
     line(rt, "rm -rf \"$1\" \"$1.out\" \"$1.lock\" \"$1.link\"", path)?;
     Ok(())
 }
 
-/// The host of a folder of the system.
+/// The host of a directory of the system.
 pub fn host_of(rt: &HostRuntime, path: &str) -> Result<UnixHost<HostRuntime>, Fail>
     ensures outside { IfOk result (λ host. IsOutside (unix_session host)) }
 {
     Ok(host_over(rt.clone()?, rt.alloc(), path)?)
 }
 
-/// The host of a folder over an outside.
+/// The host of a directory over an outside.
 pub fn host_over<R: Runtime<File = File> + Processes>(
     outside: R,
     alloc: Global,

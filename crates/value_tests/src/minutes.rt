@@ -1,6 +1,6 @@
 //! Worked minutes and times in UTC and by a rule, and texts of TZ.
 use civil_minute::{CivilMinute, DateFault, Zone, civil_of, minute_of, minute_of_touch, zone_of};
-use clock_range::{LAST_MINUTE, is_clock_second};
+use host_calls::{LAST_MINUTE, is_clock_second};
 use std::alloc::{AllocError, Global};
 use std::process::Abort;
 use timespec_grammar::parse;

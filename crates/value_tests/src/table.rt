@@ -1,4 +1,4 @@
-//! The table at its edges, and beside a plain, slow one.
+//! The table at its edges, and next to a plain, slow one.
 
 use crate::plain::Plain;
 use host_calls::{Bytes, Ending};

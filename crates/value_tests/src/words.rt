@@ -1,4 +1,4 @@
-//! Lines of words, and what they ask for.
+//! Lines of words, and what they request.
 use at_words::{Filter, Numbers, Tool, ToolRequest, When, WordsFault, request, tool_of};
 use std::alloc::{AllocError, Global};
 use std::process::Abort;
@@ -139,7 +139,7 @@ static ASKED: [(&str, &str); 23] = [
     ("atq|-q|ab", "bad queue"),
 ];
 
-// Whether each line asks for what stands beside it.
+// Whether each line requests what is next to it.
 fn assert_asked(rt: &impl Abort, alloc: Global, lines: &[(&str, &str)]) -> Result<(), Fail> {
     for (line, asked) in lines {
         let shown = line_shown(alloc, line)?;

@@ -1,14 +1,14 @@
 -- How calls that only change files join.
 use Rattle.std.proofs.Common.{◌≡◌, ℕ, List, refl, ◌∙◌}
 use Rattle.std.specs.Prelude.{Contains}
-use Rattle.host_calls.specs.Folder.{Files, Folder, IsImage}
+use Rattle.host_calls.specs.Directory.{Files, Directory, IsImage}
 use Rattle.host_calls.specs.World.{World}
 use Rattle.host_calls.proofs.WorldLemmas.{at_end, leaves_then, leaves_weaker}
-use Rattle.whole_file.specs.Clearing.{IsClearing}
+use Rattle.whole_file.specs.Removal.{IsClearing}
 use Rattle.whole_file.specs.Others.{ChangesFiles, LeavesOthers}
 
 -- an image of the start has its own files
-abbrev pub left_alone : (may_change : List ℕ → Type 0) (start : Folder) (image : Files) → IsImage start image → LeavesOthers may_change start image
+abbrev pub left_alone : (may_change : List ℕ → Type 0) (start : Directory) (image : Files) → IsImage start image → LeavesOthers may_change start image
 left_alone may_change start image is = record { from = image; was = is; others = λ name other. refl }
 
 -- one call after another, where what a crash in each leaves has the property
@@ -34,10 +34,10 @@ changes_weaker P Q old new weaker changes = record {
 }
 
 -- the images of a call's end have the property, where those of its start have it
-pub changes_end : (P : Files → Type 0) (old new : World) → ChangesFiles P old new → ((image : Files) → IsImage old.now.folder image → P image) → (image : Files) → IsImage new.now.folder image → P image
+pub changes_end : (P : Files → Type 0) (old new : World) → ChangesFiles P old new → ((image : Files) → IsImage old.now.directory image → P image) → (image : Files) → IsImage new.now.directory image → P image
 changes_end P old new changes start image is =
     (at_end (λ files handed. P files × (handed ≡ old.now.handed)) old new changes.leaves (λ files was. (start files was, refl)) image is).0
 
 -- files that are removed leave the others alone
-pub clears_alone : (names : List (List ℕ)) (start : Folder) (old new : World) → ChangesFiles (IsClearing names start) old new → ChangesFiles (LeavesOthers (Contains names) start) old new
+pub clears_alone : (names : List (List ℕ)) (start : Directory) (old new : World) → ChangesFiles (IsClearing names start) old new → ChangesFiles (LeavesOthers (Contains names) start) old new
 clears_alone names start old new changes = changes_weaker _ _ old new (λ image is. is.alone) changes

@@ -1,4 +1,4 @@
--- Whether a name is among those of the folder.
+-- Whether a name is among those of the directory.
 use Rattle.std.proofs.Common.{◌≡◌, ℕ, Bool, false, List, [], ◌∷◌, sym, ap, ◌∙◌, refl, inl, inr}
 use Rattle.std.specs.Prelude.{Option, Some, None, is_some}
 use Rattle.std.specs.FinMap as map
@@ -7,8 +7,8 @@ use Rattle.std.specs.Ordering.{eq_by_cmp}
 use Rattle.std.specs.Str.{bytes_eq}
 use Rattle.std.proofs.lemmas.Bool.{false_from_ne_true}
 use Rattle.std.proofs.lemmas.Slice.Eq.{bytes_eq-Decides}
-use Rattle.host_calls.specs.Folder.{Files, name_cmp}
-use Rattle.host_calls.proofs.FolderLemmas.{eq_by_cmp-other, eq_by_cmp-same}
+use Rattle.host_calls.specs.Directory.{Files, name_cmp}
+use Rattle.host_calls.proofs.DirectoryLemmas.{eq_by_cmp-other, eq_by_cmp-same}
 use Rattle.whole_file.proofs.OthersLemmas.{one_or_other}
 
 -- names are equal where their order says so

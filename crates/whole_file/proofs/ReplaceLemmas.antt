@@ -2,12 +2,12 @@
 use Rattle.std.proofs.Common.{◌≡◌, ◌≢◌, ◌∙◌, ℕ, zero, suc, ◌<◌, List, [], ◌∷◌, length, inl, inr, refl, sym, subst, arith, Contains}
 use Rattle.std.specs.Prelude.{Option, None, Some, IsSome, OnOk, Result, Ok, Err, slice_index_or}
 use Rattle.std.specs.FinMap as finite
-use Rattle.host_calls.specs.Folder.{Files, Folder, IsImage}
+use Rattle.host_calls.specs.Directory.{Files, Directory, IsImage}
 use Rattle.host_calls.specs.World.{World, reading}
-use Rattle.whole_file.specs.Clearing.{AreCleared, AreFiles, IsClearing}
+use Rattle.whole_file.specs.Removal.{AreCleared, AreFiles, IsClearing}
 use Rattle.whole_file.specs.Others.{ChangesFiles, IsEither}
-use Rattle.whole_file.specs.Placing.{IsPlaced, IsPlacing}
-use Rattle.whole_file.specs.Replacing.{IsCertainAt, IsWithout}
+use Rattle.whole_file.specs.Placement.{IsPlaced, IsPlacing}
+use Rattle.whole_file.specs.TempFiles.{IsDurableAt, IsWithout}
 use Rattle.whole_file.proofs.ChangesJoined.{changes_end, changes_on, changes_weaker, left_alone}
 use Rattle.whole_file.proofs.OthersLemmas.{changes_none}
 
@@ -26,49 +26,49 @@ name_is_file name files some = record {
 }
 
 -- nothing is changed where there is no such file
-pub none_cleared : (name : List ℕ) (old new : World) → new ≡ old → ChangesFiles (IsClearing (name ∷ []) old.now.folder) old new
+pub none_cleared : (name : List ℕ) (old new : World) → new ≡ old → ChangesFiles (IsClearing (name ∷ []) old.now.directory) old new
 none_cleared name old new same =
-    subst (λ now. ChangesFiles (IsClearing (name ∷ []) old.now.folder) old now) (sym same) (changes_none (IsClearing (name ∷ []) old.now.folder) old)
+    subst (λ now. ChangesFiles (IsClearing (name ∷ []) old.now.directory) old now) (sym same) (changes_none (IsClearing (name ∷ []) old.now.directory) old)
 
-pub none_left : (name : List ℕ) (old new : World) (content : Option (List ℕ)) → new ≡ old → IsCertainAt name old.now.folder
-    → content ≡ finite.get (reading old) name → content ≡ None → IsWithout name old.now.folder new.now.folder
-none_left name old new content same certain is none =
-    subst (λ (now : World). IsWithout name old.now.folder now.now.folder) (sym same)
-    (record { gone = λ image was. certain image was ∙ sym is ∙ none; others = λ other differs. refl })
+pub none_left : (name : List ℕ) (old new : World) (content : Option (List ℕ)) → new ≡ old → IsDurableAt name old.now.directory
+    → content ≡ finite.get (reading old) name → content ≡ None → IsWithout name old.now.directory new.now.directory
+none_left name old new content same durable is none =
+    subst (λ (now : World). IsWithout name old.now.directory now.now.directory) (sym same)
+    (record { gone = λ image was. durable image was ∙ sym is ∙ none; others = λ other differs. refl })
 
 -- and where it is removed, others read as before
-name_cleared : (name : List ℕ) (old new : Folder) → AreCleared (name ∷ []) old new → IsWithout name old new
+name_cleared : (name : List ℕ) (old new : Directory) → AreCleared (name ∷ []) old new → IsWithout name old new
 name_cleared name old new cleared = record {
   gone = cleared.gone name (0, omega arith, refl);
   others = λ other differs. cleared.others other (λ has. differs (is_the_name name other has));
 }
 
-pub removed : {T E : Type 0} (result : Result T E) (name : List ℕ) (old new : Folder) → OnOk result (AreCleared (name ∷ []) old new) → OnOk result (IsWithout name old new)
+pub removed : {T E : Type 0} (result : Result T E) (name : List ℕ) (old new : Directory) → OnOk result (AreCleared (name ∷ []) old new) → OnOk result (IsWithout name old new)
 removed (Ok done) name old new cleared = name_cleared name old new cleared
 removed (Err fault) name old new cleared = tt
 
 -- the target is placed after what was left was removed
-placed_after : (temp target bytes : List ℕ) (old middle new : Folder) → IsWithout temp old middle → IsPlaced temp target bytes middle new
+placed_after : (temp target bytes : List ℕ) (old middle new : Directory) → IsWithout temp old middle → IsPlaced temp target bytes middle new
     → IsPlaced temp target bytes old new
 placed_after temp target bytes old middle new cleared placed = record {
   placed = placed.placed;
   no_temp = placed.no_temp;
-  certain = placed.certain;
+  durable = placed.durable;
   others = λ name other. placed.others name other ∙ cleared.others name (λ is. other (inl is));
   alone = placed.alone;
 }
 
-pub replaced : {T E : Type 0} (result : Result T E) (temp target bytes : List ℕ) (old middle new : Folder) → IsWithout temp old middle
+pub replaced : {T E : Type 0} (result : Result T E) (temp target bytes : List ℕ) (old middle new : Directory) → IsWithout temp old middle
     → OnOk result (IsPlaced temp target bytes middle new) → OnOk result (IsPlaced temp target bytes old new)
 replaced (Ok done) temp target bytes old middle new cleared placed = placed_after temp target bytes old middle new cleared placed
 replaced (Err fault) temp target bytes old middle new cleared placed = tt
 
 -- what is cleared is placed in part
 module _ (temp target bytes : List ℕ) (differ : temp ≢ target) (old middle new : World)
-    (clears : ChangesFiles (IsClearing (temp ∷ []) old.now.folder) old middle) where
+    (clears : ChangesFiles (IsClearing (temp ∷ []) old.now.directory) old middle) where
   -- an image of the start, with nothing removed
-  uncleared : (image : Files) → IsImage old.now.folder image → IsClearing (temp ∷ []) old.now.folder image
-  uncleared image is = record { alone = left_alone (Contains (temp ∷ [])) old.now.folder image is; less = λ name. inl refl }
+  uncleared : (image : Files) → IsImage old.now.directory image → IsClearing (temp ∷ []) old.now.directory image
+  uncleared image is = record { alone = left_alone (Contains (temp ∷ [])) old.now.directory image is; less = λ name. inl refl }
 
   not_temp : (name : List ℕ) → ¬ (IsEither temp target name) → ¬ (Contains (temp ∷ []) name)
   not_temp name neither has = neither (inl (is_the_name temp name has))
@@ -76,15 +76,15 @@ module _ (temp target bytes : List ℕ) (differ : temp ≢ target) (old middle n
   not_target : ¬ (Contains (temp ∷ []) target)
   not_target has = differ (sym (is_the_name temp target has))
 
-  cleared_is_placing : (image : Files) → IsClearing (temp ∷ []) old.now.folder image → IsPlacing temp target bytes old.now.folder image
+  cleared_is_placing : (image : Files) → IsClearing (temp ∷ []) old.now.directory image → IsPlacing temp target bytes old.now.directory image
   cleared_is_placing image is = record {
     alone = record { from = is.alone.from; was = is.alone.was; others = λ name other. is.alone.others name (not_temp name other) };
     placed = inl (is.alone.others target not_target);
   }
 
-  placing_since : (image : Files) → IsPlacing temp target bytes middle.now.folder image → IsPlacing temp target bytes old.now.folder image
+  placing_since : (image : Files) → IsPlacing temp target bytes middle.now.directory image → IsPlacing temp target bytes old.now.directory image
   placing_since image is =
-      let from = changes_end (IsClearing (temp ∷ []) old.now.folder) old middle clears uncleared is.alone.from is.alone.was in
+      let from = changes_end (IsClearing (temp ∷ []) old.now.directory) old middle clears uncleared is.alone.from is.alone.was in
       record {
         alone = record {
           from = from.alone.from;
@@ -98,11 +98,11 @@ module _ (temp target bytes : List ℕ) (differ : temp ≢ target) (old middle n
       }
 
   -- what was left could not be removed
-  pub cleared_alone : ChangesFiles (IsPlacing temp target bytes old.now.folder) old middle
-  cleared_alone = changes_weaker (IsClearing (temp ∷ []) old.now.folder) (IsPlacing temp target bytes old.now.folder) old middle cleared_is_placing clears
+  pub cleared_alone : ChangesFiles (IsPlacing temp target bytes old.now.directory) old middle
+  cleared_alone = changes_weaker (IsClearing (temp ∷ []) old.now.directory) (IsPlacing temp target bytes old.now.directory) old middle cleared_is_placing clears
 
-  pub placed_since : ChangesFiles (IsPlacing temp target bytes middle.now.folder) middle new
-      → ChangesFiles (IsPlacing temp target bytes old.now.folder) old new
+  pub placed_since : ChangesFiles (IsPlacing temp target bytes middle.now.directory) middle new
+      → ChangesFiles (IsPlacing temp target bytes old.now.directory) old new
   placed_since places =
-      changes_on (IsClearing (temp ∷ []) old.now.folder) (IsPlacing temp target bytes middle.now.folder) (IsPlacing temp target bytes old.now.folder)
+      changes_on (IsClearing (temp ∷ []) old.now.directory) (IsPlacing temp target bytes middle.now.directory) (IsPlacing temp target bytes old.now.directory)
       old middle new cleared_is_placing placing_since clears places

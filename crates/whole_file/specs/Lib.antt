@@ -1,5 +1,5 @@
-pub mod Clearing
+pub mod Removal
 pub mod Others
-pub mod Placing
-pub mod Replacing
+pub mod Placement
+pub mod TempFiles
 pub mod Temporary

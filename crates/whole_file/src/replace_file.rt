@@ -1,10 +1,10 @@
 //! Replacing a file whole where a call before may have been cut off.
 ghost use Rattle.std.specs.Prelude.{◌≢◌, [], ◌∷◌, IsTrue, OnOk};
 ghost use Rattle.host_calls.specs.Session.{CallsInside, IsInside};
-ghost use Rattle.whole_file.specs.Clearing.{IsClearing};
+ghost use Rattle.whole_file.specs.Removal.{IsClearing};
 ghost use Rattle.whole_file.specs.Others.{ChangesFiles};
-ghost use Rattle.whole_file.specs.Placing.{IsPlacing, IsPlaced};
-ghost use Rattle.whole_file.specs.Replacing.{IsCertainAt, IsWithout};
+ghost use Rattle.whole_file.specs.Placement.{IsPlacing, IsPlaced};
+ghost use Rattle.whole_file.specs.TempFiles.{IsDurableAt, IsWithout};
 
 use crate::{clear, content, place};
 use host_calls::{Host, HostFault, Name};
@@ -21,14 +21,14 @@ pub fn replace<H: Host>(
 ) -> Result<(), HostFault>
     requires inside { IsInside (H.session host.old) }
     requires differ { temp.now ≢ target.now }
-    requires certain { IsTrue H.tells → IsCertainAt temp.now (H.world host.old).now.folder }
+    requires durable { IsTrue H.tells → IsDurableAt temp.now (H.world host.old).now.directory }
     ensures inside { CallsInside HostFault.Failed (H.session host.old) (H.session host.new) result }
     ensures files { IsTrue H.tells
-        → ChangesFiles (IsPlacing temp.now target.now bytes.now (H.world host.old).now.folder)
+        → ChangesFiles (IsPlacing temp.now target.now bytes.now (H.world host.old).now.directory)
         (H.world host.old) (H.world host.new) }
     ensures placed { IsTrue H.tells
         → OnOk result (IsPlaced temp.now target.now bytes.now
-        (H.world host.old).now.folder (H.world host.new).now.folder) }
+        (H.world host.old).now.directory (H.world host.new).now.directory) }
 {
     clear_left(alloc, host, temp)?;
     place(alloc, host, temp, target, bytes)
@@ -37,13 +37,13 @@ pub fn replace<H: Host>(
 // Removes what was left under the name.
 fn clear_left<H: Host>(alloc: Global, host: &mut H, name: &Name) -> Result<(), HostFault>
     requires inside { IsInside (H.session host.old) }
-    requires certain { IsTrue H.tells → IsCertainAt name.now (H.world host.old).now.folder }
+    requires durable { IsTrue H.tells → IsDurableAt name.now (H.world host.old).now.directory }
     ensures inside { CallsInside HostFault.Failed (H.session host.old) (H.session host.new) result }
     ensures files { IsTrue H.tells
-        → ChangesFiles (IsClearing (name.now ∷ []) (H.world host.old).now.folder)
+        → ChangesFiles (IsClearing (name.now ∷ []) (H.world host.old).now.directory)
         (H.world host.old) (H.world host.new) }
     ensures gone { IsTrue H.tells
-        → OnOk result (IsWithout name.now (H.world host.old).now.folder (H.world host.new).now.folder) }
+        → OnOk result (IsWithout name.now (H.world host.old).now.directory (H.world host.new).now.directory) }
 {
     if content(alloc, host, name)?.is_none() {
         return Ok(());

@@ -7,7 +7,7 @@ ghost use Rattle.host_calls.specs.World.{reading};
 use host_calls::{Bytes, Host, HostFault, Name};
 use std::alloc::Global;
 
-// The names come first: a host is asked for the length and the bytes of files that are there alone.
+// The names come first: a host is requested the length and the bytes of files that are there alone.
 /// All bytes of the named file, if there is such a file.
 pub fn content<H: Host>(
     alloc: Global,
@@ -27,7 +27,7 @@ pub fn content<H: Host>(
     Ok(Some(whole(alloc, host, name)?))
 }
 
-/// All bytes of the named file, which is there. The folder is not listed.
+/// All bytes of the named file, which exists. The directory is not listed.
 pub fn whole<H: Host>(alloc: Global, host: &mut H, name: &Name) -> Result<Bytes, HostFault>
     requires inside { IsInside (H.session host.old) }
     requires held { IsTrue H.tells → IsSome (map.get (reading (H.world host.old)) name.now) }

@@ -1,1 +1,2 @@
 mod NothingLemmas
+mod Walks

@@ -1,13 +1,13 @@
--- A folder without files.
+-- A directory without files.
 use Rattle.std.proofs.Common.{◌≡◌, ◌∙◌, [], ℕ, List, ap, sym, rules}
 use Rattle.std.specs.Prelude.{IsSome, None, option_map, is_some, map as map_list}
 use Rattle.std.specs.FinMap as map
 use Rattle.std.specs.FinMap.{entries, get-empty, len-empty, len-entries}
 use Rattle.std.proofs.lemmas.List.{nil_from_length}
-use Rattle.host_calls.proofs.FolderLemmas.{get-files_of, same_names}
-use Rattle.host_calls.specs.Folder.{Files, name_cmp}
+use Rattle.host_calls.proofs.DirectoryLemmas.{get-files_of, same_names}
+use Rattle.host_calls.specs.Directory.{Files, name_cmp}
 use Rattle.host_calls.specs.World.{reading}
-use Rattle.witnessed_host.specs.Nothing.{empty_world}
+use Rattle.witnessed_host.specs.EmptyWorld.{empty_world}
 
 abbrev nothing : Files
 nothing = map.empty

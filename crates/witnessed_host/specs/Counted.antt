@@ -1,4 +1,4 @@
--- What stands around a host or inputs, and counts what failed (own).
+-- What is around a host or inputs, and counts what failed (own).
 use Rattle.host_calls.specs.Inputs.{Sources}
 use Rattle.host_calls.specs.Session.{Session}
 use Rattle.witnessed_host.specs.declared.counts.FaultCounts.{FaultCounts}

@@ -1,3 +1,4 @@
+pub mod Answered
 pub mod Counted
-pub mod Nothing
-pub mod Passing
+pub mod EmptyWorld
+pub mod PassedAnswers

@@ -1,7 +1,7 @@
 //! Who is told each call on inputs.
 ghost use Rattle.std.specs.Prelude.{◌≡◌, Bool, IsTrue, IfOk};
 ghost use Rattle.host_calls.specs.Inputs.{Contents, IsInputPrefix};
-ghost use Rattle.witnessed_host.specs.Passing.{Passes};
+ghost use Rattle.witnessed_host.specs.PassedAnswers.{Passes};
 
 use host_calls::{Bytes, InputFault};
 

@@ -1,12 +1,12 @@
 //! A witness who knows that there is nothing.
 ghost use Rattle.std.specs.Prelude.{◌≡◌, true};
-ghost use Rattle.witnessed_host.specs.Nothing.{empty_world, no_contents};
+ghost use Rattle.witnessed_host.specs.EmptyWorld.{empty_world, no_contents};
 
 use crate::{InputWitness, Witness};
 use host_calls::{Bytes, Child, Ending, EnterFault, HostFault, InputFault, Name, StartFault};
 use std::alloc::AllocError;
 
-/// Knows that the folder is empty and stays so, that standard input is empty and that there is no other file. He
+/// Knows that the directory is empty and stays so, that standard input is empty and that there is no other file. He
 /// disputes all else.
 #[derive(Clone, Copy)]
 pub struct NoFiles;

@@ -1,15 +1,16 @@
-//! Who is told each call on a folder.
+//! Who is told each call on a directory.
 ghost use Rattle.std.specs.Prelude.{◌≡◌, Bool, IsTrue, IsSome, IfOk, length};
 ghost use Rattle.std.specs.Allocator.{alloc_error};
 ghost use Rattle.std.specs.FinMap as map;
-ghost use Rattle.host_calls.specs.Folder.{IsInNoImage, IsMade, IsMadeInPart, IsWritten, IsWrittenInPart, IsSynced, IsRenamed, IsRemoved, HasNamesSynced, IsSettled, IsSyncedInPart};
+ghost use Rattle.host_calls.specs.Directory.{IsInNoImage, IsMade, IsMadeInPart, IsWritten, IsWrittenInPart, IsSynced, IsRenamed, IsRemoved, HasNamesSynced, IsSettled, IsSyncedInPart};
 ghost use Rattle.host_calls.specs.World.{World, FileCall, StartCall, Asks, TimePasses, reading, size_of, bytes_from, IsWithinFile};
-ghost use Rattle.witnessed_host.specs.Passing.{Passes};
+ghost use Rattle.witnessed_host.specs.PassedAnswers.{Passes};
 
 use host_calls::{Child, Ending, EnterFault, HostFault, Name, StartFault};
 use std::alloc::AllocError;
 
-/// Who is told each call on a folder with its answer. He passes an answer on, or disputes it: the call has failed then.
+/// Who is told each call on a directory with its answer. He passes an answer on, or disputes it: the call has failed
+/// then.
 pub trait Witness {
     /// Whether he knows the files.
     ghost knows: { Bool };
@@ -31,13 +32,13 @@ pub trait Witness {
         ensures goes_on { IsTrue knows → TimePasses (world self.old) (world self.new) }
         ensures alone { IsTrue knows → IsTrue alone → world self.new ≡ world self.old };
 
-    /// The names of the plain files were asked for.
+    /// The names of the plain files were requested.
     fn listed(&mut self, answer: Result<Vec<Name>, HostFault>) -> Result<Vec<Name>, HostFault>
         ensures passes { Passes HostFault.Failed answer result }
         ensures looks { IsTrue knows → world self.new ≡ world self.old }
         ensures listed { IsTrue knows → IfOk result (λ names. names.items ≡ map.keys (reading (world self.old))) };
 
-    /// The length of a file was asked for.
+    /// The length of a file was requested.
     fn measured(&mut self, name: &Name, answer: Result<u64, HostFault>) -> Result<u64, HostFault>
         requires held { IsTrue knows → IsSome (map.get (reading (world self.old)) name.now) }
         ensures passes { Passes HostFault.Failed answer result }
@@ -66,7 +67,7 @@ pub trait Witness {
         bytes: &[u8],
         answer: Result<(), HostFault>,
     ) -> Result<(), HostFault>
-        requires new_name { IsTrue knows → IsInNoImage (world self.old).now.folder name.now }
+        requires new_name { IsTrue knows → IsInNoImage (world self.old).now.directory name.now }
         ensures passes { Passes HostFault.Failed answer result }
         ensures files { IsTrue knows → FileCall (IsMade name.now bytes.now) (IsMadeInPart name.now bytes.now)
             (world self.old) (world self.new) result };
@@ -99,7 +100,7 @@ pub trait Witness {
         ensures files { IsTrue knows
             → FileCall HasNamesSynced IsSyncedInPart (world self.old) (world self.new) result };
 
-    /// All of the folder was synced.
+    /// All of the directory was synced.
     fn settled(&mut self, answer: Result<(), HostFault>) -> Result<(), HostFault>
         ensures passes { Passes HostFault.Failed answer result }
         ensures files { IsTrue knows → FileCall IsSettled IsSyncedInPart (world self.old) (world self.new) result };
@@ -123,13 +124,14 @@ pub trait Witness {
         ensures files { IsTrue knows
             → FileCall (IsRemoved name.now) (IsRemoved name.now) (world self.old) (world self.new) result };
 
-    /// The script in the named file was handed over. That can't be disputed, since a child may run.
+    /// The script in the named file was started. That can't be disputed, since a child may run.
     fn started(&mut self, number: u32, name: &Name, nice: u8, answer: &Result<Child, StartFault>)
         requires held { IsTrue knows → IsSome (map.get (reading (world self.old)) name.now) }
         ensures handed { IsTrue knows
             → StartCall number name.now nice (world self.old) (world self.new) answer.now };
 
-    /// A child was asked whether it has ended. A dispute stands as want of memory, the one fault of this call.
+    /// A child was asked whether it has ended. A dispute stands as an out-of-memory error, the one fault of this
+    /// call.
     fn asked(
         &mut self,
         child: &Child,

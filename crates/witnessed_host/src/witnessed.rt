@@ -1,22 +1,22 @@
-//! A host beside a witness.
+//! A host next to a witness.
 ghost use Rattle.std.specs.Prelude.{◌≡◌};
 
 use crate::counts::FaultCounts;
-use crate::{Untold, Witness};
+use crate::{Unmodelled, Witness};
 use host_calls::{Child, Ending, EnterFault, Host, HostFault, Name, StartFault};
 use std::alloc::{AllocError, Global};
 
-/// A host that tells nothing of its files, beside a witness who is told each call with its answer. The two of them tell
-/// what he knows. A dispute counts as a fault of the host.
+/// A host that exposes nothing of its files, next to a witness who is told each call with its answer. The two of them
+/// tell what he knows. A dispute counts as a fault of the host.
 #[derive(Drop)]
-pub struct Witnessed<H: Untold + Drop, W: Witness + Drop> {
+pub struct Witnessed<H: Unmodelled + Drop, W: Witness + Drop> {
     host: H,
     witness: W,
     counts: FaultCounts,
 }
 
-impl<H: Untold + Drop, W: Witness + Drop> Witnessed<H, W> {
-    /// The host beside the witness. Nothing was counted so far.
+impl<H: Unmodelled + Drop, W: Witness + Drop> Witnessed<H, W> {
+    /// The host next to the witness. Nothing was counted so far.
     pub fn new(host: H, witness: W) -> Witnessed<H, W>
         ensures host { result.host ≡ host }
         ensures witness { result.witness ≡ witness }
@@ -41,7 +41,7 @@ impl<H: Untold + Drop, W: Witness + Drop> Witnessed<H, W> {
     }
 }
 
-impl<H: Untold + Drop, W: Witness + Drop> Host for Witnessed<H, W> {
+impl<H: Unmodelled + Drop, W: Witness + Drop> Host for Witnessed<H, W> {
     ghost use Rattle.witnessed_host.specs.Counted.{counted_session};
 
     ghost tells = { W.knows };

@@ -1,22 +1,22 @@
-//! Inputs beside a witness.
+//! Inputs next to a witness.
 ghost use Rattle.std.specs.Prelude.{◌≡◌};
 
 use crate::counts::input_call;
-use crate::{InputWitness, UntoldInputs};
+use crate::{InputWitness, UnmodelledInputs};
 use host_calls::{Bytes, InputFault, Inputs};
 use std::alloc::Global;
 
-/// Inputs that tell nothing of their content, beside a witness who is told each call with its answer. The two of them
-/// tell what he knows. A dispute counts as a fault of the inputs.
+/// Inputs that expose nothing of their content, next to a witness who is told each call with its answer. The two of
+/// them tell what he knows. A dispute counts as a fault of the inputs.
 #[derive(Drop)]
-pub struct WitnessedInputs<I: UntoldInputs + Drop, W: InputWitness + Drop> {
+pub struct WitnessedInputs<I: UnmodelledInputs + Drop, W: InputWitness + Drop> {
     inputs: I,
     witness: W,
     input_faults: u64,
 }
 
-impl<I: UntoldInputs + Drop, W: InputWitness + Drop> WitnessedInputs<I, W> {
-    /// The inputs beside the witness. Nothing was counted so far.
+impl<I: UnmodelledInputs + Drop, W: InputWitness + Drop> WitnessedInputs<I, W> {
+    /// The inputs next to the witness. Nothing was counted so far.
     pub fn new(inputs: I, witness: W) -> WitnessedInputs<I, W>
         ensures inputs { result.inputs ≡ inputs }
         ensures witness { result.witness ≡ witness }
@@ -30,7 +30,7 @@ impl<I: UntoldInputs + Drop, W: InputWitness + Drop> WitnessedInputs<I, W> {
     }
 }
 
-impl<I: UntoldInputs + Drop, W: InputWitness + Drop> Inputs for WitnessedInputs<I, W> {
+impl<I: UnmodelledInputs + Drop, W: InputWitness + Drop> Inputs for WitnessedInputs<I, W> {
     ghost use Rattle.witnessed_host.specs.Counted.{counted_sources};
 
     ghost tells = { W.knows };

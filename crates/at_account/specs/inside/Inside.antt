@@ -1,20 +1,20 @@
 -- What is done within the session, and what is put after it (own).
 use Rattle.std.specs.Prelude.{◌≡◌, ◌≤◌, ◌++◌, ℕ, Bool, true, List, Option, Result, Ok, Err, length}
-use Rattle.accounts.specs.declared.record.AccountRecord.{AccountRecord}
-use Rattle.accounts.specs.declared.account.TheConstants.{MAX_RECORDS}
-use Rattle.accounts.specs.Observing.{AreNews, WouldPass}
-use Rattle.cause_output.specs.declared.command_error.CommandError.{CommandError}
-use Rattle.cause_output.specs.Sinks.{SinkAt}
+use Rattle.at_account.specs.declared.record.AccountRecord.{AccountRecord}
+use Rattle.at_account.specs.declared.account.TheConstants.{MAX_RECORDS}
+use Rattle.at_account.specs.ObservedTable.{AreNews, WouldPass}
+use Rattle.tool_output.specs.declared.command_error.CommandError.{CommandError}
+use Rattle.tool_output.specs.Sinks.{SinkAt}
 use Rattle.host_calls.specs.World.{World, reading}
 use Rattle.listing_text.specs.declared.cause.Cause.{Cause}
 use Rattle.listing_text.specs.declared.cause.Cause.TheVariants.{Refused, FileFault, Memory, Damaged}
 use Rattle.listing_text.specs.declared.refusal.Refusal.TheVariants.{AccountsFull}
 use Rattle.spool_model.specs.JobTable.{JobTable}
 use Rattle.whole_file.specs.Others.{ChangesFiles}
-use Rattle.at_account.specs.Accounting.{IsAccounted, IsAccounting, IsSpoolOrAccountDamage, IsLeftAlone, AccountLeaves, AccountRefusalLeaves}
-use Rattle.at_account.specs.Counting.{GivesRecords, IsAccountDamage}
+use Rattle.at_account.specs.AccountOutcome.{IsAccounted, IsAccounting, IsSpoolOrAccountDamage, IsLeftAlone, AccountLeaves, AccountRefusalLeaves}
+use Rattle.at_account.specs.UpdatedRecords.{GivesRecords, IsAccountDamage}
 
--- what may stop the work: a fault of a file, want of memory, damage, or that there would be too many records
+-- what may stop the work: a fault of a file, an out-of-memory error, damage, or that there would be too many records
 abbrev pub IsAccountingCause : Cause → Type 0
 IsAccountingCause FileFault = Unit {0}
 IsAccountingCause Memory = Unit {0}
@@ -25,10 +25,10 @@ IsAccountingCause _ = ⊥
 -- the records are those of the content with what is new of the table, not too many
 pub record AreUpdatedContent (table : JobTable) (content : Option (List ℕ)) (records : List AccountRecord) : Type 0 where
   pub read : List AccountRecord
-  pub news : List AccountRecord
+  pub new_records : List AccountRecord
   pub gives : GivesRecords content read
-  pub are : AreNews read table news
-  pub all : records ≡ read ++ news
+  pub are : AreNews read table new_records
+  pub all : records ≡ read ++ new_records
   pub few : length records ≤ MAX_RECORDS
 
 -- there would be too many
@@ -62,7 +62,7 @@ abbrev pub EndsInside : Bool → World → World → Result (List ℕ) CommandEr
 EndsInside show old new (Ok text) = IsAccounted show old new text
 EndsInside show old new (Err stopped) = StopsInside old new stopped.cause
 
--- what each image has and what is left, where the host tells its files and nobody else changes them
+-- what each image has and what is left, where the host exposes its files and nobody else changes them
 pub record Accounts (files alone output show : Bool) (old new : World) (was now : SinkAt) (cause : Cause) : Type 0 where
-  pub images : files ≡ true → alone ≡ true → ChangesFiles (IsAccounting old.now.folder) old new
+  pub images : files ≡ true → alone ≡ true → ChangesFiles (IsAccounting old.now.directory) old new
   pub leaves : files ≡ true → alone ≡ true → AccountLeaves show output old new was now cause

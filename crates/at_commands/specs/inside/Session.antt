@@ -1,7 +1,7 @@
 -- Why the session of a command ended without being done (own).
 use Rattle.listing_text.specs.declared.cause.Cause.{Cause}
 use Rattle.listing_text.specs.declared.cause.Cause.TheVariants.{Refused, FileFault, Busy, Memory, Damaged}
-use Rattle.cause_output.specs.declared.command_error.CommandError.{CommandError}
+use Rattle.tool_output.specs.declared.command_error.CommandError.{CommandError}
 
 -- the output did not fail, nor did the inputs
 abbrev pub IsSpoolCause : Cause → Type 0

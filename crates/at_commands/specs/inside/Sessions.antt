@@ -3,12 +3,12 @@ use Rattle.std.specs.Prelude.{◌≡◌, [], ℕ, Bool, true, List, Result, Ok, 
 use Rattle.at_words.specs.declared.tool_request.ToolRequest.{ToolRequest}
 use Rattle.civil_minute.specs.declared.zone.Zone.{Zone}
 use Rattle.host_calls.specs.World.{World}
-use Rattle.cause_output.specs.declared.caller.Caller.{Caller}
-use Rattle.cause_output.specs.declared.command_error.CommandError.{CommandError}
-use Rattle.cause_output.specs.Causes.{cause_in}
+use Rattle.tool_output.specs.declared.caller.Caller.{Caller}
+use Rattle.tool_output.specs.declared.command_error.CommandError.{CommandError}
+use Rattle.tool_output.specs.Causes.{cause_in}
 use Rattle.command_rules.specs.Found.{found_of}
-use Rattle.at_commands.specs.inside.Carrying.{Carries, Finding, IsSessionText}
-use Rattle.cause_output.specs.Sinks.{PrintsBy, SinkAt}
+use Rattle.at_commands.specs.inside.SessionOutcome.{Carries, Finding, IsSessionText}
+use Rattle.tool_output.specs.Sinks.{PrintsBy, SinkAt}
 
 -- nothing was found outside but the lists of users
 abbrev pub lists_alone : Finding

@@ -3,7 +3,7 @@
 use Rattle.std.specs.Prelude.{◌≡◌, ◌+◌, ◌-◌, ◌%◌, ◌==◌, ◌&&◌, ◌+ℤ◌, ℕ, ℤ, Bool, if◌then◌else◌}
 use Rattle.jiff.specs.Types.{DateTime}
 use Rattle.jiff.specs.Words.{civil_seconds, weekday_of}
-use Rattle.clock_range.specs.ClockRange.{IsClockSecond}
+use Rattle.host_calls.specs.ClockRange.{IsClockSecond}
 use Rattle.civil_minute.specs.Meant.{IsInstantOf}
 use Rattle.civil_minute.specs.Zone.{offset_in}
 use Rattle.civil_minute.specs.declared.civil.CivilMinute.{CivilMinute}

@@ -12,7 +12,7 @@ pub record IsUsedUpFor (table : JobTable) (count : ℕ) : Type 0 where
   pub room : live_count table + count ≤ MAX_LIVE
   pub few : LAST_NUMBER < table.last + count
 
--- why so many jobs are not submitted: there is no room, or else no number for each, or want of memory
+-- why so many jobs are not submitted: there is no room, or else no number for each, or an out-of-memory error
 abbrev pub IsRoomFault : JobTable → ℕ → StoreFault → Type 0
 IsRoomFault table count QueueFull = MAX_LIVE < live_count table + count
 IsRoomFault table count NumbersUsedUp = IsUsedUpFor table count

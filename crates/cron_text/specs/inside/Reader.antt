@@ -6,7 +6,7 @@ use Rattle.std.specs.Str.{bytes_eq}
 use Rattle.std.specs.Int.RustNames.{bit_or}
 use Rattle.std.specs.Option.{option_or}
 use Rattle.text_reader.specs.Blanks.{after_blanks, is_blank}
-use Rattle.text_reader.specs.Reading.{Read, two_digits_in, ◌>>=◌}
+use Rattle.text_reader.specs.ReadResult.{Read, two_digits_in, ◌>>=◌}
 use Rattle.cron_text.specs.Entry.{is_command, is_ignored}
 use Rattle.cron_text.specs.Field as Field
 use Rattle.cron_text.specs.declared.entry.CronEntry.{CronEntry}
@@ -104,7 +104,7 @@ cron_entry schedule command = record {
 abbrev pub entry_in_line : List ℕ → Option CronEntry
 entry_in_line line = option_map (λ found. cron_entry found.0 found.1) (line_in line)
 
--- the entries with that of one line more, if the line isn't bad
+-- the entries with that of one more line, if the line isn't bad
 unfoldable pub with_line : List CronEntry → List ℕ → Option (List CronEntry)
 with_line entries line =
     if is_ignored line then Some entries else option_map (λ entry. entries ++ entry ∷ []) (entry_in_line line)

@@ -1,4 +1,4 @@
--- Ends by number, and the kids that have none of them (own).
+-- Ends by number, and the children that have none of them (own).
 use Rattle.std.specs.Prelude.{◌≡◌, ◌<◌, Bool, true, false, not, List, All, AllPairs, filter}
 use Rattle.std.specs.List.{list_any}
 use Rattle.daemon_turn.specs.declared.kid.Kid.{Kid}
@@ -19,6 +19,6 @@ pub record AreEndsByNumber (steps : List TurnStep) : Type 0 where
   pub each : All (λ step. is_end step ≡ true) steps
   pub ordered : AllPairs (λ one other. number_of_step one < number_of_step other) steps
 
--- the kids of which the steps tell no end
+-- the children of which the steps tell no end
 abbrev pub without_ended : List TurnStep → List Kid → List Kid
 without_ended steps kids = filter (λ kid. not (list_any (tells_end_of kid.number) steps)) kids

@@ -11,17 +11,17 @@ use Rattle.daemon_turn.specs.declared.kid.Kid.{Kid}
 use Rattle.spool_model.specs.declared.turn_step.TurnStep.{TurnStep}
 use Rattle.daemon_turn.specs.Decisions.{asked_kids, questions}
 use Rattle.daemon_turn.specs.Kids.{AreChildren, kept_kids}
-use Rattle.daemon_turn.specs.Starting.{Turn}
+use Rattle.daemon_turn.specs.StartOrder.{Turn}
 use Rattle.daemon_turn.specs.Turning.{AreFirstSteps, AreTurnSteps}
-use Rattle.daemon_turn.specs.inside.Going.{MakesPart, TurnPart}
+use Rattle.daemon_turn.specs.inside.TurnParts.{MakesPart, TurnPart}
 
 -- all steps of the turn, or the first of them
 abbrev pub AreStepsBy : Turn → JobTable → List (Option Ending) → TurnPart → Result Kept StoreFault → Type 0
 AreStepsBy turn table answers part (Ok kept) = AreTurnSteps turn table answers part.flags part.steps
 AreStepsBy turn table answers part (Err fault) = AreFirstSteps turn table answers part.flags (part.steps ++ part.next)
 
--- The steps of the turn were made on what is kept, or the first of them, and written down. The kids left are those that
--- stay and those that were added, each with a child of the host, and no two with one number.
+-- The steps of the turn were made on what is kept, or the first of them, and written down. The children left are those
+-- that stay and those that were added, each with a child of the host, and no two with one number.
 pub record MakesTurn (tells : Bool) (before after : Session) (old new : World) (kept : Kept) (turn : Turn) (left : List Kid)
     (report : List TurnStep) (result : Result Kept StoreFault) : Type 0 where
   pub part : TurnPart

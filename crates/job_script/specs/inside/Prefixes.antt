@@ -30,7 +30,7 @@ pub record IsLinePrefix (bytes rest : List ℕ) : Type 0 where
   pub keeps : IsTrue (is_kept_variable variable)
   pub text : bytes ≡ variable_line variable.0 (quoted variable.1) ++ rest
 
--- so many of the first bytes may stand in a variable's name, and no more
+-- so many of the first bytes may be in a variable's name, and no more
 pub record IsNameRun (bytes : List ℕ) (count : ℕ) : Type 0 where
   pub within : count ≤ length bytes
   pub each : (k : ℕ) → k < count → IsTrue (is_variable_byte (slice_index bytes k))

@@ -1,8 +1,8 @@
 -- A line spells one note at most.
 use Rattle.std.proofs.Common.{◌≡◌, ◌∙◌, ℕ, ◌<◌, ◌^◌, Bool, true, false, List, [], ◌∷◌, ◌++◌, ap, arith, drop, get_or, refl, subst, sym, take}
-use Rattle.hex_digits.specs.Digits.{SpellsNumber, digits_of}
-use Rattle.hex_digits.proofs.DigitLemmas.{one_number}
-use Rattle.hex_digits.proofs.EightDigits.{digits_spelled}
+use Rattle.text_reader.specs.HexDigits.{SpellsNumber, digits_of}
+use Rattle.text_reader.proofs.DigitLemmas.{one_number}
+use Rattle.text_reader.proofs.EightDigits.{digits_spelled}
 use Rattle.host_calls.specs.Names.{is_name_byte}
 use Rattle.job_name.proofs.JobNameLemmas.{job_is_name}
 use Rattle.record_lines.specs.Lines.{HasNone}

@@ -1,7 +1,7 @@
 -- The bodies of files as they are kept.
 use Rattle.std.specs.Prelude.{◌||◌, ◌++◌, [], ◌∷◌, ℕ, Bool, true, false, not, List, length, slice_index_or, slice_set}
 use Rattle.std.specs.List.{list_any}
-use Rattle.host_calls.specs.Folder.{Body, is_within, overwritten}
+use Rattle.host_calls.specs.Directory.{Body, is_within, overwritten}
 use Rattle.memory_host.specs.Crash.{crashed_bytes}
 use Rattle.memory_host.specs.declared.body.Range.{Range}
 
@@ -15,13 +15,13 @@ pub record KeptBody : Type 0 where
 abbrev pub lies_in : List Range → ℕ → Bool
 lies_in ranges place = list_any (λ range. is_within range.offset range.count place) ranges
 
--- whether the place is uncertain: all places are in a file that was never synced
+-- whether the place is not synced: all places are in a file that was never synced
 abbrev pub may_change : KeptBody → ℕ → Bool
 may_change kept place = not kept.is_synced || lies_in kept.ranges place
 
 -- what a kept body stands for
 abbrev pub body_of : KeptBody → Body
-body_of kept = record { bytes = kept.bytes; is_synced = kept.is_synced; is_uncertain = may_change kept }
+body_of kept = record { bytes = kept.bytes; is_synced = kept.is_synced; is_unsynced_at = may_change kept }
 
 -- a file that was just made
 abbrev pub kept_made : List ℕ → KeptBody
@@ -44,7 +44,7 @@ kept_synced kept = record { bytes = kept.bytes; is_synced = true; ranges = [] }
 abbrev pub kept_crashed : ℕ → KeptBody → KeptBody
 kept_crashed pick kept = record { bytes = crashed_bytes pick (body_of kept); is_synced = true; ranges = [] }
 
--- the body that stands at the numbers that no file has
+-- the body that is at the numbers that no file has
 abbrev pub none_kept : KeptBody
 none_kept = record { bytes = []; is_synced = true; ranges = [] }
 

@@ -1,10 +1,10 @@
 -- How a story goes on.
 use Rattle.std.specs.Prelude.{◌≡◌, ◌++◌, [], ◌∷◌, ℕ, List, Result, Ok, Err}
-use Rattle.host_calls.specs.Folder.{Files, IsHeldAt, IsImage, names_of, reading_of}
+use Rattle.host_calls.specs.Directory.{Files, IsHeldAt, IsImage, names_of, reading_of}
 use Rattle.memory_host.specs.Past.{State, CallLog, history_of}
 use Rattle.memory_host.specs.declared.past_call.PastCall.{PastCall}
 
--- the story with one call more
+-- the story with one more call
 abbrev pub with_next : PastCall → CallLog → CallLog
 with_next call story = record { opening = story.opening; calls = story.calls ++ call ∷ [] }
 
@@ -15,12 +15,12 @@ state_of story = (history_of story).now
 -- The story goes on by a call on the body that the name alone holds, where there was room for it.
 abbrev pub Follows : {T E : Type 0} → (ℕ → PastCall) → List ℕ → CallLog → CallLog → Result T E → Type 0
 Follows call name old new (Ok value) =
-    (number : ℕ) × IsHeldAt (names_of (state_of old).folder) name number × (new ≡ with_next (call number) old)
+    (number : ℕ) × IsHeldAt (names_of (state_of old).directory) name number × (new ≡ with_next (call number) old)
 Follows call name old new (Err fault) = new ≡ old
 
--- the story of a folder with these files, all of them certain, before its first call
+-- the story of a directory with these files, all of them durable, before its first call
 pub record Opens (files : Files) (story : CallLog) : Type 0 where
-  pub reading : reading_of (state_of story).folder ≡ files
-  pub settled : (image : Files) → IsImage (state_of story).folder image → image ≡ files
+  pub reading : reading_of (state_of story).directory ≡ files
+  pub settled : (image : Files) → IsImage (state_of story).directory image → image ≡ files
   pub handed : (state_of story).handed ≡ []
   pub before : (history_of story).before ≡ []

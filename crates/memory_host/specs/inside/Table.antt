@@ -3,7 +3,7 @@ use Rattle.std.specs.Prelude.{◌≡◌, ◌||◌, [], ◌∷◌, ℕ, Bool, Lis
 use Rattle.std.specs.Ordering.{eq_by_cmp}
 use Rattle.std.specs.List.{filter, list_any}
 use Rattle.std.specs.BTreeMap.{BTreeMap, get}
-use Rattle.host_calls.specs.Folder.{Change, Made, Renamed, Removed, name_cmp}
+use Rattle.host_calls.specs.Directory.{Change, Made, Renamed, Removed, name_cmp}
 use Rattle.memory_host.specs.Crash.{is_picked}
 use Rattle.memory_host.specs.declared.held.Held.{Held}
 use Rattle.memory_host.specs.declared.pending.Change.{Change as KeptChange}
@@ -23,17 +23,17 @@ now_part None = None
 now_part (Some held) = held.now
 
 -- the body that a name certainly holds
-abbrev pub certain_part : Option Held → Option ℕ
-certain_part None = None
-certain_part (Some held) = held.certain
+abbrev pub durable_part : Option Held → Option ℕ
+durable_part None = None
+durable_part (Some held) = held.durable
 
 -- which body each name holds now
 abbrev pub now_in : HeldNames → Holders
 now_in held name = now_part (get name_cmp held name)
 
 -- which body each name certainly holds
-abbrev pub certain_in : HeldNames → Holders
-certain_in held name = certain_part (get name_cmp held name)
+abbrev pub durable_in : HeldNames → Holders
+durable_in held name = durable_part (get name_cmp held name)
 
 -- the names that hold a body now, in their order
 abbrev pub now_names : List (List ℕ × Held) → List (List ℕ)
@@ -106,8 +106,8 @@ abbrev pub HoldsSameNow : HeldNames → HeldNames → Type 0
 HoldsSameNow old new = (name : List ℕ) → now_in new name ≡ now_in old name
 
 -- the two maps certainly hold the same
-abbrev pub HoldsSameCertain : HeldNames → HeldNames → Type 0
-HoldsSameCertain old new = (name : List ℕ) → certain_in new name ≡ certain_in old name
+abbrev pub HoldsSameDurable : HeldNames → HeldNames → Type 0
+HoldsSameDurable old new = (name : List ℕ) → durable_in new name ≡ durable_in old name
 
 -- what is kept of a name stays kept
 abbrev pub KeepsPlaces : HeldNames → HeldNames → Type 0

@@ -1,4 +1,4 @@
--- What a survey of the files of jobs finds, file by file, and the rows that it makes (own).
+-- What a scan of the files of jobs finds, file by file, and the rows that it makes (own).
 use Rattle.std.specs.Prelude.{◌≡◌, ◌≤◌, ◌==◌, if◌then◌else◌, [], ◌∷◌, ℕ, Bool, List, Some, None, Option, Result, Ok, Err, drop, map, option_map, take}
 use Rattle.std.specs.BTreeMap.{is_at}
 use Rattle.std.specs.List.{AllByRecursion, list_any}
@@ -53,9 +53,9 @@ abbrev pub HaveRows : ℕ → List Mark → List JobFile → List Row → Type 0
 HaveRows last marks files rows = (files_damage last [] files ≡ None) × ListsRows marks files rows
 
 -- the numbers of files that were surveyed, the last one first, before these
-abbrev pub surveyed_numbers : List ℕ → List JobFile → List ℕ
-surveyed_numbers before [] = before
-surveyed_numbers before (file ∷ later) = surveyed_numbers (file.job.number ∷ before) later
+abbrev pub scanned_numbers : List ℕ → List JobFile → List ℕ
+scanned_numbers before [] = before
+scanned_numbers before (file ∷ later) = scanned_numbers (file.job.number ∷ before) later
 
 -- whether the number is one of these
 abbrev pub IsTaken : List ℕ → ℕ → Bool → Type 0
@@ -73,13 +73,13 @@ IsRowOrDamage last before marks file (Err damage) = damage_of file (file_place l
 
 -- Of these files so many were surveyed: the damage of all is that of the others after them, and the
 -- rows are theirs.
-pub record IsSurveyedSoFar (last : ℕ) (marks : List Mark) (files : List JobFile) (place : ℕ) (rows : RowMap) : Type 0 where
-  pub damage : files_damage last [] files ≡ files_damage last (surveyed_numbers [] (take place files)) (drop place files)
+pub record IsScannedSoFar (last : ℕ) (marks : List Mark) (files : List JobFile) (place : ℕ) (rows : RowMap) : Type 0 where
+  pub damage : files_damage last [] files ≡ files_damage last (scanned_numbers [] (take place files)) (drop place files)
   pub rows_are : AreRowsOf marks (take place files) rows
 
 -- Of these files so many have rising numbers and rows without a fault; these are the rows, and none has a number above
 -- this one.
 pub record IsRisingSoFar (last : ℕ) (marks : List Mark) (files : List JobFile) (place above : ℕ) (rows : List Row) : Type 0 where
-  pub so_far : IsSurveyedSoFar last marks files place (rows_by_number rows)
+  pub so_far : IsScannedSoFar last marks files place (rows_by_number rows)
   pub rise : IsInOrder (rows_by_number rows)
   pub below : AllByRecursion (λ number. number ≤ above) (map (λ under. under.0) (rows_by_number rows))

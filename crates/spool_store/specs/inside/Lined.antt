@@ -3,8 +3,8 @@ use Rattle.std.specs.Prelude.{◌≡◌, ◌++◌, ◌∷◌, ℕ, ℤ, List, ma
 use Rattle.spool_model.specs.declared.decided.Decided.{Decided}
 use Rattle.spool_model.specs.declared.row.Row.{Row}
 use Rattle.spool_model.specs.declared.state.State.TheVariants.{Running}
-use Rattle.due_lines.specs.declared.lines.Lines.{Lines}
-use Rattle.due_lines.specs.TwoLines.{AreLinesOf}
+use Rattle.queue_rules.specs.declared.lines.Lines.{Lines}
+use Rattle.queue_rules.specs.TwoLines.{AreLinesOf}
 use Rattle.spool_store.specs.Listed.{AreListed}
 use Rattle.spool_store.specs.Rows.{decided_entry, row_entry}
 
@@ -19,7 +19,7 @@ pub record IsRowPut (old : List Row) (row : Row) (put new : List Row) : Type 0 w
   pub was : old ≡ prefix ++ row ∷ back
   pub is : new ≡ prefix ++ (put ++ back)
 
--- The rows and the decided numbers are listed, and the lines are those of the rows.
+-- The rows and the finished numbers are listed, and the lines are those of the rows.
 pub record AreRowsKept (last : ℕ) (rows : List Row) (decided : List Decided) (lines : Lines) : Type 0 where
   pub listed : AreListed last (map row_entry rows) (map decided_entry decided)
   pub lined : AreLinesOf rows lines

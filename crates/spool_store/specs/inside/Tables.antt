@@ -1,4 +1,4 @@
--- The rows and decided numbers of the table that marks and files show (own).
+-- The rows and finished numbers of the table that marks and files show (own).
 use Rattle.std.specs.Prelude.{◌≡◌, ◌≤◌, ℕ, List, None, Contains, map, false}
 use Rattle.std.specs.List.Sorted.{IsStrictlySortedBy}
 use Rattle.std.specs.Ordering.{nat_cmp}
@@ -16,7 +16,7 @@ use Rattle.spool_store.specs.Rows.{listed_table}
 abbrev pub IsDrawnBy : ℕ → ℕ → Type 0
 IsDrawnBy last number = (1 ≤ number) × (number ≤ last)
 
--- no file is that of a decided number
+-- no file is that of a finished number
 abbrev pub AreUndecided : List Mark → List JobFile → Type 0
 AreUndecided marks files = (file : JobFile) → Contains files file → is_decided file.job.number marks ≡ false
 
@@ -24,7 +24,7 @@ AreUndecided marks files = (file : JobFile) → Contains files file → is_decid
 abbrev pub AreAscending : List ℕ → Type 0
 AreAscending numbers = IsStrictlySortedBy nat_cmp numbers
 
--- There is no damage, and the rows and decided numbers, each in the order of their numbers, are the table
+-- There is no damage, and the rows and finished numbers, each in the order of their numbers, are the table
 -- that is shown, without scripts.
 pub record ListsTable (last : ℕ) (marks : List Mark) (files : List JobFile) (rows : List Row)
     (decided : List Decided) : Type 0 where
@@ -33,7 +33,7 @@ pub record ListsTable (last : ℕ) (marks : List Mark) (files : List JobFile) (r
   pub rows_rise : AreAscending (map (λ row. row.number) rows)
   pub decided_rise : AreAscending (map (λ one. one.number) decided)
 
--- each number of the rows and the decided ones was drawn, and none is in both
+-- each number of the rows and the finished ones was drawn, and none is in both
 pub record ListsDrawn (last : ℕ) (rows : List Row) (decided : List Decided) : Type 0 where
   pub rows_drawn : (row : Row) → Contains rows row → IsDrawnBy last row.number
   pub decided_drawn : (one : Decided) → Contains decided one → IsDrawnBy last one.number

@@ -15,7 +15,7 @@ IsLongestMatch text place table None = HasNoWord text place table
 IsLongestMatch text place table (Some found) =
     (word : List ℕ) × IsLongest text place table word found.token × (found.end ≡ place + length word)
 
--- what is found with one row more, whatever the rows before it are
+-- what is found with one more row, whatever the rows before it are
 abbrev pub AddsRow : List ℕ → ℕ → Option Found → List ℕ × Token → Option Found → Type 0
 AddsRow text place old row new =
     (table : WordTable) → IsLongestMatch text place table old → IsLongestMatch text place (table ++ row ∷ []) new

@@ -1,6 +1,6 @@
 -- What the reader gives at each part of the text; its lemmas show that it reads the spelling, and nothing else.
 use Rattle.std.specs.Prelude.{ℕ, ◌+◌, ◌*◌, ◌&&◌, ◌||◌, ◌==◌, Bool, true, false, List, [], ◌∷◌, length, Option, Some, None, nat_lt, nat_le, if◌then◌else◌}
-use Rattle.text_reader.specs.Reading.{Read, two_digits_in, ◌>>=◌}
+use Rattle.text_reader.specs.ReadResult.{Read, two_digits_in, ◌>>=◌}
 use Rattle.touch_time.specs.declared.touch.TouchTime.{TouchTime}
 
 -- a number from low to high, in two digits

@@ -1,4 +1,4 @@
--- The plain files that are found in a folder (own).
+-- The plain files that are found in a directory (own).
 use Rattle.std.specs.Prelude.{◌≡◌, ◌++◌, ◌∷◌, [], ℕ, List}
 use Rattle.unix_host.specs.Listings.{head_in}
 use Rattle.unix_host.specs.declared.found.FoundFiles.{FoundFiles}

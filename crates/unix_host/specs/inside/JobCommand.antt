@@ -18,10 +18,10 @@ abbrev pub job_words : ℕ → List ℕ → List ℕ → List (List ℕ)
 job_words nice script output =
     codes "-c" ∷ job_line ∷ codes "atjob" ∷ decimal nice ∷ script ∷ output ∷ []
 
--- the command runs this line in this folder and environment, which the line clears
+-- the command runs this line in this directory and environment, which the line clears
 pub record IsJobCommand {A : Type 0} (nice : ℕ) (script output : List ℕ) (command : Command A) : Type 0 where
   pub program : command_program command ≡ codes "/bin/sh"
   pub words : command_args command ≡ job_words nice script output
   pub inherits : clears_env command ≡ false
   pub sets : (name : List ℕ) → command_var command name ≡ None
-  pub folder : command_dir command ≡ None
+  pub directory : command_dir command ≡ None

@@ -8,7 +8,7 @@ use Rattle.unix_host.specs.declared.lock_files.Tried.{Tried}
 use Rattle.unix_host.specs.declared.lock_files.Tried.TheVariants as tried
 use Rattle.unix_host.specs.declared.paths.Paths.{Paths}
 
--- the path of what is locked there: the file beside the directory, and the directory
+-- the path of what is locked there: the file next to the directory, and the directory
 abbrev pub lock_path : Paths → LockPlace → List ℕ
 lock_path paths Beside = string_bytes paths.lock
 lock_path paths Within = string_bytes paths.whole

@@ -1,15 +1,15 @@
--- The paths of a spool folder and of what lies beside it (own).
+-- The paths of a spool directory and of what lies next to it (own).
 use Rattle.std.specs.Prelude.{◌++◌, ◌∷◌, ℕ, List, codes}
 use Rattle.std.specs.Path.{slash}
 
--- the folder of the jobs' outputs
+-- the directory of the jobs' outputs
 abbrev pub outputs_of : List ℕ → List ℕ
-outputs_of folder = folder ++ codes ".out"
+outputs_of directory = directory ++ codes ".out"
 
 -- the lock file
 abbrev pub lock_of : List ℕ → List ℕ
-lock_of folder = folder ++ codes ".lock"
+lock_of directory = directory ++ codes ".lock"
 
--- the file of this name in the folder
+-- the file of this name in the directory
 abbrev pub file_in : List ℕ → List ℕ → List ℕ
-file_in folder name = folder ++ slash ∷ name
+file_in directory name = directory ++ slash ∷ name

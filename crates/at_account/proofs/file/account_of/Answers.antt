@@ -1,4 +1,4 @@
-use Rattle.accounts.specs.Lines.{SpellsRecord}
+use Rattle.at_account.specs.Lines.{SpellsRecord}
 use Rattle.record_lines.proofs.FileLemmas.{all_can}
 use Rattle.at_account.proofs.file.account_of.Goals as goal
 

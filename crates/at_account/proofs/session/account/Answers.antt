@@ -1,6 +1,6 @@
 use Rattle.std.proofs.Common.{List, rules, subst, ℕ}
-use Rattle.cause_output.specs.Sinks.{sink_at}
-use Rattle.cause_output.specs.Whole.{PutsWhole}
+use Rattle.tool_output.specs.Sinks.{sink_at}
+use Rattle.tool_output.specs.Whole.{PutsWhole}
 use Rattle.at_account.proofs.SessionLemmas.{Ends, put_leaves, session_ends, session_images, session_may_end, stopped_leaves}
 use Rattle.at_account.proofs.session.account.Goals as goal
 

@@ -10,7 +10,7 @@ returns-in-Ok-clause-counts g c = λ known.
     let observed = c.in-Ok.ensures.observed c.args.store.now.table c.rows.ensures.rows c.decided.ensures in
     record {
       read = c.in_ok-account.account;
-      news = observed.news;
+      new_records = observed.new_records;
       gives = c.in_ok-account.ensures.reads known;
       are = observed.are;
       all = observed.added;

@@ -1,5 +1,5 @@
 use Rattle.std.proofs.Common.{◌≡◌, ◌++◌, drop}
-use Rattle.at_account.specs.Showing.{counts_text}
+use Rattle.at_account.specs.TotalLines.{counts_text}
 use Rattle.at_account.proofs.show.add_counts.Given as goal
 
 abbrev pub invariant-loop-count : goal.invariant-loop-count

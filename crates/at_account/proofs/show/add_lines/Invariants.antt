@@ -1,6 +1,6 @@
 use Rattle.std.proofs.Common.{◌≡◌, ◌++◌, drop}
-use Rattle.cause_output.specs.Putting.{joined_lines}
-use Rattle.at_account.specs.Showing.{line_text}
+use Rattle.tool_output.specs.PutLines.{joined_lines}
+use Rattle.at_account.specs.TotalLines.{line_text}
 use Rattle.at_account.proofs.show.add_lines.Given as goal
 
 abbrev pub invariant-loop-line : goal.invariant-loop-line

@@ -1,7 +1,7 @@
 use Rattle.std.proofs.Common.{◌∙◌, List, rules, subst, sym, ℕ}
 use Rattle.at_words.specs.declared.tool_request.ToolRequest.TheVariants as request
-use Rattle.cause_output.specs.Sinks.{sink_at}
-use Rattle.cause_output.specs.Whole.{PutsWhole}
+use Rattle.tool_output.specs.Sinks.{sink_at}
+use Rattle.tool_output.specs.Whole.{PutsWhole}
 use Rattle.at_commands.proofs.AnswerLemmas.{listing_put, listing_stopped, listing_unzoned, puts_after_lock, puts_no_busy, puts_no_file_fault, puts_no_input_fault}
 use Rattle.at_commands.proofs.InSessionLemmas.{lists_of_session, no_output_of_session}
 use Rattle.at_commands.proofs.SessionLemmas.{no_input_of_spool, no_output_of_spool, quiet_none, risen_none}

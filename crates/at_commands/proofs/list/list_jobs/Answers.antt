@@ -1,5 +1,5 @@
 use Rattle.std.proofs.Common.{◌≡◌, ◌∙◌, refl, sym}
-use Rattle.cause_output.specs.Sinks.{sink_at}
+use Rattle.tool_output.specs.Sinks.{sink_at}
 use Rattle.at_commands.proofs.AnswerLemmas.{listing_unnamed, named_user, unnamed_user}
 use Rattle.at_commands.proofs.SessionLemmas.{quiet_none}
 use Rattle.at_commands.proofs.list.list_jobs.Goals as goal

@@ -1,7 +1,7 @@
 use Rattle.std.proofs.Common.{◌≡◌, ◌∙◌, List, refl, rules, subst, sym, ℕ}
 use Rattle.at_words.specs.declared.tool_request.ToolRequest.TheVariants as request
-use Rattle.cause_output.specs.Causes.{cause_in}
-use Rattle.at_commands.specs.inside.Carrying.{Carries}
+use Rattle.tool_output.specs.Causes.{cause_in}
+use Rattle.at_commands.specs.inside.SessionOutcome.{Carries}
 use Rattle.at_commands.specs.inside.Sessions.{lists_alone}
 use Rattle.at_commands.proofs.AnswerLemmas.{named_user, removal_ends, removal_unnamed, unnamed_user}
 use Rattle.at_commands.proofs.InSessionLemmas.{carries_of_session, no_output_of_session}

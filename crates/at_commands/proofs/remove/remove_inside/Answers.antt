@@ -1,7 +1,7 @@
 use Rattle.std.proofs.Common.{sym, refl, true}
 use Rattle.std.proofs.lemmas.Result.{err_from_is_err_and}
 use Rattle.at_words.specs.declared.tool_request.ToolRequest.TheVariants as request
-use Rattle.cause_output.specs.Causes.{cause_in}
+use Rattle.tool_output.specs.Causes.{cause_in}
 use Rattle.host_calls.proofs.WorldLemmas.{goes_on_then}
 use Rattle.at_commands.proofs.ForLemmas.{carries_unopened, removal_by, removal_comes, removal_refused}
 use Rattle.at_commands.proofs.JobsLemmas.{removal_allowed}

@@ -5,13 +5,13 @@ use Rattle.at_words.specs.Requests.{request_by, request_of}
 use Rattle.at_words.specs.Tools.{tool_of_words}
 use Rattle.at_words.specs.declared.fault.WordsFault.{WordsFault}
 use Rattle.at_words.specs.declared.tool.Tool.{Tool}
-use Rattle.cause_output.specs.Outside.{holding, telling}
-use Rattle.cause_output.specs.Sinks.{sink_at}
+use Rattle.tool_output.specs.Outside.{holding, telling}
+use Rattle.tool_output.specs.Sinks.{sink_at}
 use Rattle.listing_text.specs.declared.cause.Cause.{Cause}
 use Rattle.listing_text.specs.declared.cause.Cause.TheVariants.{Memory}
-use Rattle.cause_output.specs.Saying.{IsSaid}
+use Rattle.tool_output.specs.SaidLines.{IsSaid}
 use Rattle.serving.specs.Serves.{serve_at}
-use Rattle.cause_output.specs.Causes.{words_cause}
+use Rattle.tool_output.specs.Causes.{words_cause}
 use Rattle.at_commands.specs.Tools.{tool_name_of}
 use Rattle.at_commands.proofs.AtdLemmas.{nothing_served, words_served}
 use Rattle.host_calls.proofs.WorldLemmas.{goes_on_none}
@@ -20,7 +20,7 @@ use Rattle.at_commands.proofs.EndsLemmas.{ends_said}
 use Rattle.at_commands.proofs.ServedLemmas.{daemon_named, has_turns}
 use Rattle.at_commands.proofs.run_command.command.Goals as goal
 
--- words that ask for nothing, by the tool that they name
+-- words that request nothing, by the tool that they name
 asked_by : (words : List (List ℕ)) (named : Option (Tool × ℕ)) (fault : WordsFault) → named ≡ tool_of_words words →
     Answers (request_by named words) (Err fault) → Answers (request_of words) (Err fault)
 asked_by words named fault is asked = subst (λ (tool : Option (Tool × ℕ)). Answers (request_by tool words) (Err fault)) is asked

@@ -1,6 +1,6 @@
 use Rattle.std.proofs.Common.{ap, refl}
-use Rattle.cause_output.specs.Outside.{holding, telling}
-use Rattle.cause_output.specs.Sinks.{sink_at}
+use Rattle.tool_output.specs.Outside.{holding, telling}
+use Rattle.tool_output.specs.Sinks.{sink_at}
 use Rattle.host_calls.specs.Clock.{Readers}
 use Rattle.at_commands.proofs.CommandLemmas.{ends_not_running, make_ends, read_never}
 use Rattle.at_commands.proofs.SessionLemmas.{quiet_none}

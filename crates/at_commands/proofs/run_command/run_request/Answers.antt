@@ -1,7 +1,7 @@
 use Rattle.std.specs.Prelude.{Ok}
 use Rattle.std.proofs.Common.{◌∙◌, refl}
-use Rattle.cause_output.specs.Outside.{holding, telling}
-use Rattle.cause_output.specs.Sinks.{sink_at}
+use Rattle.tool_output.specs.Outside.{holding, telling}
+use Rattle.tool_output.specs.Sinks.{sink_at}
 use Rattle.at_commands.proofs.CommandLemmas.{cause_had, ends_not_running, fails_later, memory_busy, memory_file_fault, memory_input_fault, memory_output_fault, stops_had}
 use Rattle.at_commands.proofs.EndsLemmas.{ends_said}
 use Rattle.at_commands.proofs.run_command.run_request.Goals as goal

@@ -1,7 +1,7 @@
 use Rattle.std.proofs.Common.{◌≡◌, ◌∙◌, List, refl, rules, subst, sym, ℕ}
 use Rattle.at_words.specs.declared.tool_request.ToolRequest.TheVariants as request
 use Rattle.host_calls.specs.Causes.{Rose}
-use Rattle.cause_output.specs.Sinks.{sink_at}
+use Rattle.tool_output.specs.Sinks.{sink_at}
 use Rattle.at_commands.specs.inside.Sessions.{ShowsInSession}
 use Rattle.at_commands.proofs.AnswerLemmas.{named_user, showing_ends, showing_unnamed, unnamed_user}
 use Rattle.at_commands.proofs.InSessionLemmas.{answer_of_session, fails_of_session, no_input_of_session, shows_of_session}

@@ -1,10 +1,10 @@
 use Rattle.std.proofs.Common.{refl, sym, false}
 use Rattle.std.proofs.lemmas.Result.{err_from_is_err_and}
 use Rattle.at_words.specs.declared.tool_request.ToolRequest.TheVariants as request
-use Rattle.cause_output.specs.Sinks.{sink_at}
+use Rattle.tool_output.specs.Sinks.{sink_at}
 use Rattle.host_calls.proofs.WorldLemmas.{goes_on_none, goes_on_then}
 use Rattle.at_commands.proofs.AnswerLemmas.{showing_of, showing_unopened}
-use Rattle.at_commands.proofs.UnreadLemmas.{silent}
+use Rattle.at_commands.proofs.UnreadLemmas.{unchecked}
 use Rattle.at_commands.proofs.ForLemmas.{showing_refused}
 use Rattle.at_commands.proofs.JobsLemmas.{jobs_live_all}
 use Rattle.at_commands.proofs.SessionLemmas.{jobs_come, no_output_of_stopped, not_opened_comes, not_opened_of_spool, showing_comes}
@@ -37,7 +37,7 @@ returns-in-Some-clause-shows g c = λ caller same.
     (showing_refused g.H.Host.tells g.O.Sink.tells c.args.numbers.now caller c.args.user.now same (g.H.Host.world c.args.host.now)
     (g.H.Host.world c.open_store.new.host) (g.H.Host.world c.open_store.new.host) (sink_at (g.O.Sink.content c.args.out.now) (g.O.Sink.outlet c.args.out.now))
     (sink_at (g.O.Sink.content c.args.out.now) (g.O.Sink.outlet c.args.out.now)) c.in_ok-store.store c.in_ok-store.ensures.opened c.in-Some.refusal c.in-Some.ensures
-    (λ known. refl) (silent _))
+    (λ known. refl) (unchecked _))
 
 pub put_scripts-requires-clause-live : goal.put_scripts-requires-clause-live
 put_scripts-requires-clause-live g c = jobs_live_all c.args.user.now c.in_ok-store.store.table c.args.numbers.now (sym c.in-None.ensures)

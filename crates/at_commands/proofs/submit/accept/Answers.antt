@@ -1,4 +1,4 @@
-use Rattle.cause_output.proofs.WholeLemmas.{put_failed}
+use Rattle.tool_output.proofs.WholeLemmas.{put_failed}
 use Rattle.at_commands.proofs.PutLemmas.{accepted_put}
 use Rattle.at_commands.proofs.submit.accept.Goals as goal
 

@@ -1,13 +1,13 @@
 use Rattle.std.proofs.Common.{ap, refl, subst}
 use Rattle.std.specs.Prelude.{Err}
 use Rattle.listing_text.specs.declared.cause.Cause.{Cause}
-use Rattle.submission_checks.specs.Preparing.{IsOfPreparing}
-use Rattle.cause_output.specs.Causes.{error_of}
-use Rattle.cause_output.specs.Sinks.{sink_at}
-use Rattle.at_commands.specs.inside.Answering.{held_by, tells_of}
+use Rattle.submission_checks.specs.EarlyChecks.{IsOfPreparing}
+use Rattle.tool_output.specs.Causes.{error_of}
+use Rattle.tool_output.specs.Sinks.{sink_at}
+use Rattle.at_commands.specs.inside.RequestOutcome.{held_by, tells_of}
 use Rattle.at_commands.proofs.PreparedLemmas.{prepared_header, prepared_named, prepared_zoned, submission_answered, submission_stopped}
 use Rattle.at_commands.proofs.SessionLemmas.{quiet_none, risen_none}
-use Rattle.at_commands.proofs.UnreadLemmas.{silent}
+use Rattle.at_commands.proofs.UnreadLemmas.{unchecked}
 use Rattle.at_commands.proofs.submit.submit_job.Goals as goal
 
 pub returns-in-Err-clause-quiet : goal.returns-in-Err-clause-quiet
@@ -32,7 +32,7 @@ returns-in-Err-clause-submits g c =
     (sink_at (g.E.Sink.content c.args.err.now) (g.E.Sink.outlet c.args.err.now)))
     (held_by (g.H.Host.world c.args.host.now) (g.R.Readings.answers c.prepare.new.readings) (g.I.Inputs.contents c.prepare.new.inputs)
     (sink_at (g.E.Sink.content c.args.err.now) (g.E.Sink.outlet c.args.err.now)))
-    c.in-Err.stopped (rw c.path_of.ensures at c.in-Err.ensures.prepares) refl (silent _)
+    c.in-Err.stopped (rw c.path_of.ensures at c.in-Err.ensures.prepares) refl (unchecked _)
 
 pub store_and_say-requires-clause-user : goal.store_and_say-requires-clause-user
 store_and_say-requires-clause-user g c =

@@ -4,7 +4,7 @@ use Rattle.step_runs.proofs.AttemptLemmas.{recoveries_begin_nothing}
 use Rattle.memory_host.specs.Host.{memory_session, memory_world}
 use Rattle.spool_model.specs.declared.decided.Decided.{Decided}
 use Rattle.spool_model.specs.declared.number.TheConstants.{LAST_NUMBER}
-use Rattle.at_day.specs.Counting.{is_running_row, is_waiting_row, was_finished, was_interrupted, was_not_started, was_removed}
+use Rattle.at_day.specs.JobCounts.{is_running_row, is_waiting_row, was_finished, was_interrupted, was_not_started, was_removed}
 use Rattle.at_day.proofs.CountLemmas.{decided_few, rows_few}
 use Rattle.at_day.proofs.CountedLemmas.{counted}
 use Rattle.at_day.proofs.count_jobs.counted_within.Goals as goal

@@ -1,5 +1,5 @@
 use Rattle.std.proofs.Common.{List, sym, subst}
-use Rattle.day_events.specs.declared.report.EventReport.{EventReport}
+use Rattle.at_day.specs.declared.events_report.EventReport.{EventReport}
 use Rattle.at_day.specs.Days.{IsDayOf, first_machine}
 use Rattle.at_day.proofs.OutcomeLemmas.{on_err}
 use Rattle.at_day.proofs.days.day.Goals as goal

@@ -1,11 +1,11 @@
 use Rattle.std.proofs.Common.{◌≡◌, ◌∙◌, true, List, ap, subst, sym}
 use Rattle.std.specs.List.{list_all, list_any}
-use Rattle.day_events.specs.Days.{is_day_event}
-use Rattle.day_events.specs.declared.event.Event.{Event}
-use Rattle.day_events.specs.declared.report.EventReport.{EventReport}
-use Rattle.day_events.specs.Made.{made_events}
-use Rattle.day_events.specs.Plans.{made_plan}
-use Rattle.day_events.specs.declared.made.Made.{Made}
+use Rattle.at_day.specs.EventsDays.{is_day_event}
+use Rattle.at_day.specs.declared.event.Event.{Event}
+use Rattle.at_day.specs.declared.events_report.EventReport.{EventReport}
+use Rattle.at_day.specs.Made.{made_events}
+use Rattle.at_day.specs.Plans.{made_plan}
+use Rattle.at_day.specs.declared.made.Made.{Made}
 use Rattle.memory_host.specs.Host.{IsNew}
 use Rattle.memory_host.specs.declared.plan.Plan.{Plan}
 use Rattle.at_day.specs.Days.{IsDay}

@@ -1,7 +1,7 @@
 use Rattle.std.proofs.Common.{◌∙◌, List, ℕ, ap, subst, sym}
 use Rattle.std.specs.List.{concat}
-use Rattle.cause_output.specs.Sinks.{sink_at}
-use Rattle.cause_output.specs.Putting.{PutsLines}
+use Rattle.tool_output.specs.Sinks.{sink_at}
+use Rattle.tool_output.specs.PutLines.{PutsLines}
 use Rattle.at_day.proofs.LineLemmas.{lines_concat}
 use Rattle.at_day.proofs.ProgramLemmas.{day_put, day_stopped}
 use Rattle.at_day.proofs.made_day.put_day.Goals as goal

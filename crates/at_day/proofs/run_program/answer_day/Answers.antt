@@ -1,7 +1,7 @@
 use Rattle.std.proofs.Common.{map, refl, string_bytes}
 use Rattle.std.specs.Prelude.{codes}
 use Rattle.at_words.specs.Requests.{request_of}
-use Rattle.cause_output.specs.Sinks.{sink_at}
+use Rattle.tool_output.specs.Sinks.{sink_at}
 use Rattle.at_day.proofs.ProgramLemmas.{day_said, line_said}
 use Rattle.at_day.proofs.run_program.answer_day.Goals as goal
 

@@ -1,8 +1,8 @@
 use Rattle.std.proofs.Common.{map, string_bytes, subst, sym}
 use Rattle.at_words.specs.Requests.{request_of}
-use Rattle.cause_output.specs.Sinks.{sink_at}
+use Rattle.tool_output.specs.Sinks.{sink_at}
 use Rattle.listing_text.specs.declared.cause.Cause.{Cause}
-use Rattle.at_day.specs.inside.Making.{IsDayRequest}
+use Rattle.at_day.specs.inside.DayParts.{IsDayRequest}
 use Rattle.at_day.specs.Programs.{EndsMade}
 use Rattle.at_day.proofs.ProgramLemmas.{ends_asked, ends_unasked}
 use Rattle.at_day.proofs.RequestLemmas.{IsDayAsked, day_asked}

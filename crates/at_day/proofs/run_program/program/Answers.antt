@@ -2,7 +2,7 @@ use Rattle.std.proofs.Common.{◌≡◌, ◌∙◌, [], true, false, inl, map, r
 use Rattle.std.specs.Prelude.{Bool}
 use Rattle.at_words.specs.Requests.{request_of}
 use Rattle.host_calls.proofs.WorldLemmas.{goes_on_none}
-use Rattle.cause_output.specs.Sinks.{sink_at}
+use Rattle.tool_output.specs.Sinks.{sink_at}
 use Rattle.listing_text.specs.declared.cause.Cause.TheVariants as cause
 use Rattle.at_day.specs.Programs.{asks_for_day}
 use Rattle.at_day.proofs.ProgramLemmas.{day_fails, no_such_cause}

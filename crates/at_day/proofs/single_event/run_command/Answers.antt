@@ -5,7 +5,7 @@ use Rattle.memory_host.specs.Readings.{readings_spelling}
 use Rattle.at_words.specs.Requests.{request_of}
 use Rattle.at_words.specs.Tools.{tool_of_words}
 use Rattle.at_commands.specs.Served.{IsNotServed}
-use Rattle.day_events.specs.Days.{is_day_tool}
+use Rattle.at_day.specs.EventsDays.{is_day_tool}
 use Rattle.host_calls.specs.Clock.{Readers}
 use Rattle.host_calls.specs.Inputs.{Sources}
 use Rattle.memory_host.specs.MemorySink.{content_so_far}

@@ -2,7 +2,7 @@ use Rattle.std.proofs.Common.{◌≡◌, refl, sym, subst, ap, ◌∙◌}
 use Rattle.mail_session.specs.PostState.{PostState, new_post}
 use Rattle.daemon_turn.specs.Kids.{AreChildren}
 use Rattle.at_mail.specs.Program.{mail_outside, work_with}
-use Rattle.at_mail.specs.inside.Progressing.{HasMade}
+use Rattle.at_mail.specs.inside.OneSession.{HasMade}
 use Rattle.at_mail.proofs.ProgramLemmas.{no_kids, posted_ends, unmade_ends}
 use Rattle.at_mail.proofs.program.post_sessions.Goals as goal
 

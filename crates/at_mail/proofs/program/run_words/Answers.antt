@@ -1,8 +1,8 @@
 use Rattle.std.proofs.Common.{refl, subst, map, string_bytes}
 use Rattle.listing_text.specs.declared.cause.Cause.{Cause}
 use Rattle.at_mail.specs.Outcomes.{mail_program}
-use Rattle.cause_output.specs.Saying.{IsSaid}
-use Rattle.cause_output.specs.Sinks.{sink_at}
+use Rattle.tool_output.specs.SaidLines.{IsSaid}
+use Rattle.tool_output.specs.Sinks.{sink_at}
 use Rattle.at_mail.specs.Program.{PostEnds, mail_outside}
 use Rattle.at_mail.specs.Words.{post_asked}
 use Rattle.at_mail.proofs.ProgramLemmas.{unasked_ends}

@@ -1,7 +1,7 @@
 use Rattle.std.proofs.Common.{◌≡◌, ◌+◌, ◌∙◌, [], ◌∷◌, ◌++◌, ℕ, length, refl, subst, sym, arith}
 use Rattle.std.specs.Prelude.{Option}
-use Rattle.cause_output.specs.Outside.{RestsBefore, RestsOn}
-use Rattle.at_mail.specs.Making.{IsSession, no_session, rest_after_sessions}
+use Rattle.tool_output.specs.Outside.{RestsBefore, RestsOn}
+use Rattle.at_mail.specs.SessionsWithRests.{IsSession, no_session, rest_after_sessions}
 use Rattle.at_mail.specs.Program.{mail_outside, work_with}
 use Rattle.at_mail.proofs.MakingLemmas.{ended_at, ended_made, keeps_all, last_more, makes_more, one_longer, rest_same}
 use Rattle.at_mail.proofs.sessions.make_mail_sessions.Goals as goal

@@ -1,6 +1,6 @@
 use Rattle.std.proofs.Common.{◌≡◌, List, length}
 use Rattle.std.specs.Prelude.{None}
-use Rattle.at_mail.specs.Making.{MakesMailSessions}
+use Rattle.at_mail.specs.SessionsWithRests.{MakesMailSessions}
 use Rattle.at_mail.specs.Outcomes.{PostItem, last_session_outcome}
 use Rattle.at_mail.specs.Program.{mail_outside, work_with}
 use Rattle.at_mail.proofs.sessions.make_mail_sessions.Given as goal

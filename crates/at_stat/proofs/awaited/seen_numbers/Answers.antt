@@ -1,6 +1,6 @@
 use Rattle.std.proofs.Common.{◌&&◌, ◌∙◌, ap, sym, List, filter}
-use Rattle.job_states.specs.Reports.{is_in_queue}
-use Rattle.job_states.proofs.LineLemmas.{if_ok}
+use Rattle.at_stat.specs.Reports.{is_in_queue}
+use Rattle.at_stat.proofs.LineLemmas.{if_ok}
 use Rattle.listing_text.specs.Listing.{may_see}
 use Rattle.queue_rules.specs.Order.{row_numbers}
 use Rattle.spool_model.specs.declared.row.Row.{Row}

@@ -1,5 +1,5 @@
 use Rattle.std.proofs.Common.{ap, inr, sym}
-use Rattle.cause_output.specs.declared.command_error.CommandError.{CommandError}
+use Rattle.tool_output.specs.declared.command_error.CommandError.{CommandError}
 use Rattle.at_stat.proofs.LateLemmas.{denied_comes}
 use Rattle.at_stat.proofs.look.look_inside.Goals as goal
 

@@ -1,5 +1,5 @@
 use Rattle.std.proofs.Common.{◌∙◌, ap, map, string_bytes, subst, sym}
-use Rattle.at_stat.specs.Stating.{HasStatEnded, stat_outside, stopped_status}
+use Rattle.at_stat.specs.StatOutcome.{HasStatEnded, stat_outside, stopped_status}
 use Rattle.at_stat.specs.Words.{stat_asked}
 use Rattle.at_stat.proofs.EndLemmas.{ended_unasked}
 use Rattle.at_stat.proofs.program.states_by_words.Goals as goal

@@ -1,5 +1,5 @@
 use Rattle.std.proofs.Common.{refl}
-use Rattle.at_stat.specs.Waiting.{wait_at}
+use Rattle.at_stat.specs.WaitSessions.{wait_at}
 use Rattle.at_stat.proofs.wait.look_again.Goals as goal
 
 pub returns : goal.returns

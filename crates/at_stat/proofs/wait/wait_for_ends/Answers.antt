@@ -1,6 +1,6 @@
 use Rattle.std.proofs.Common.{◌+◌, ◌∙◌, ap, arith, refl, sym, ℕ}
 use Rattle.std.proofs.lemmas.Result.{err_from_is_err_and}
-use Rattle.at_stat.specs.Waiting.{no_more, once_more, wait_at}
+use Rattle.at_stat.specs.WaitSessions.{no_more, once_more, wait_at}
 use Rattle.at_stat.proofs.wait.wait_for_ends.Goals as goal
 
 pub loop-looks-init : goal.loop-looks-init

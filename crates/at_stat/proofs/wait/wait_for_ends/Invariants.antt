@@ -1,6 +1,6 @@
 use Rattle.std.proofs.Common.{◌≡◌, ◌≤◌, ◌+◌, ◌-◌, ℕ}
 use Rattle.host_calls.specs.Session.{IsOutside}
-use Rattle.at_stat.specs.Waiting.{Waits, wait_at, wait_telling}
+use Rattle.at_stat.specs.WaitSessions.{Waits, wait_at, wait_telling}
 use Rattle.at_stat.proofs.wait.wait_for_ends.Given as goal
 
 abbrev pub invariant-loop-looks : goal.invariant-loop-looks

@@ -1,4 +1,4 @@
-use Rattle.cause_output.specs.Sinks.{SaysBy}
+use Rattle.tool_output.specs.Sinks.{SaysBy}
 use Rattle.command_rules.proofs.LawLemmas as law
 use Rattle.command_rules.proofs.laws.refusals_change_nothing.Goals as goal
 

@@ -1,10 +1,10 @@
 use Rattle.std.proofs.Common.{◌≡◌, ◌∙◌, List, ap, rules, subst, sym, w64, ℕ, ℤ}
 use Rattle.std.proofs.lemmas.Int.{to_z-of_z}
-use Rattle.clock_range.specs.ClockRange.{minute_at}
+use Rattle.host_calls.specs.ClockRange.{minute_at}
 use Rattle.cron_text.specs.declared.entry.CronEntry.{CronEntry}
-use Rattle.cron_session.specs.Leaving.{CronsTo}
+use Rattle.cron_session.specs.SessionOutcome.{CronsTo}
 use Rattle.cron_session.specs.declared.report.CronEnd.{CronEnd}
-use Rattle.cron_session.specs.inside.Working.{CronWorks, end_of_cron_session}
+use Rattle.cron_session.specs.inside.SessionWork.{CronWorks, end_of_cron_session}
 use Rattle.cron_session.proofs.SessionLemmas.{cron_of_session, distinct_of_session}
 use Rattle.cron_session.proofs.session.cron_session.Goals as goal
 

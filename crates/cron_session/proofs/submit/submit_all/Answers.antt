@@ -1,9 +1,9 @@
 use Rattle.std.proofs.Common.{◌≡◌, ◌+◌, ◌≤◌, ℕ, List, append-nil, arith, length, subst, sym}
 use Rattle.std.specs.Prelude.{Ok, Err}
 use Rattle.spool_model.specs.declared.job.Job.{Job}
-use Rattle.cron_session.specs.inside.Submitting.{SubmitsOne}
+use Rattle.cron_session.specs.inside.Submissions.{SubmitsOne}
 use Rattle.spool_model.specs.Lists.{live_count}
-use Rattle.host_session.proofs.SessionLemmas.{stays_inside}
+use Rattle.host_calls.proofs.SessionLemmas.{stays_inside}
 use Rattle.cron_session.specs.inside.Due.{cron_job, cron_jobs}
 use Rattle.cron_session.proofs.SubmitLemmas.{none_so_far}
 use Rattle.cron_session.proofs.LoopLemmas.{all_submitted, last_more, live_more, stays_on, stopped_submitting, submits_at, submitted_more, written_more}

@@ -1,9 +1,9 @@
 use Rattle.std.proofs.Common.{◌∙◌, ℕ, subst, sym}
 use Rattle.host_calls.specs.World.{World}
 use Rattle.step_runs.specs.Current.{IsCurrent}
-use Rattle.cron_mark.specs.Names.{mark_temp}
-use Rattle.whole_file.specs.Replacing.{IsCertainAt}
-use Rattle.cron_session.proofs.WorkLemmas.{temp_certain}
+use Rattle.cron_session.specs.MarkNames.{mark_temp}
+use Rattle.whole_file.specs.TempFiles.{IsDurableAt}
+use Rattle.cron_session.proofs.WorkLemmas.{temp_durable}
 use Rattle.cron_session.specs.Steps.{Cron, IsMarkedBefore}
 use Rattle.cron_session.proofs.WorksLemmas.{due_worked, late_enough, marked_already, marked_before, not_read, not_recovered, works_at}
 use Rattle.cron_session.proofs.work.cron_session_body.Goals as goal
@@ -37,14 +37,14 @@ returns-then-is_since g c = λ now same.
 pub submit_due-requires-clause-current : goal.submit_due-requires-clause-current
 submit_due-requires-clause-current g c = λ known. (
   (c.in_ok-store.ensures.recovered known).table,
-  subst (λ (world : World). IsCurrent c.in_ok-store.store world.now.folder (c.in_ok-store.ensures.recovered known).table) (sym (c.in_ok-marked.ensures.looks known))
+  subst (λ (world : World). IsCurrent c.in_ok-store.store world.now.directory (c.in_ok-store.ensures.recovered known).table) (sym (c.in_ok-marked.ensures.looks known))
       (c.in_ok-store.ensures.recovered known).current,
 )
 
-pub submit_due-requires-clause-certain : goal.submit_due-requires-clause-certain
-submit_due-requires-clause-certain g c = λ known.
-    subst (λ (world : World). IsCertainAt mark_temp world.now.folder) (sym (c.in_ok-marked.ensures.looks known))
-    (temp_certain (g.H.Host.world c.args.host.now) (g.H.Host.world c.recover.new.host) c.in_ok-store.store (c.in_ok-store.ensures.recovered known))
+pub submit_due-requires-clause-durable : goal.submit_due-requires-clause-durable
+submit_due-requires-clause-durable g c = λ known.
+    subst (λ (world : World). IsDurableAt mark_temp world.now.directory) (sym (c.in_ok-marked.ensures.looks known))
+    (temp_durable (g.H.Host.world c.args.host.now) (g.H.Host.world c.recover.new.host) c.in_ok-store.store (c.in_ok-store.ensures.recovered known))
 
 pub returns : goal.returns
 returns g c = λ now same.

@@ -3,7 +3,7 @@ use Rattle.job_script.specs.declared.writer.TheConstants.{MAX_COMMANDS}
 use Rattle.host_calls.specs.declared.store_fault.StoreFault.TheVariants.{Memory}
 use Rattle.cron_session.specs.Steps.{Cron}
 use Rattle.cron_session.specs.inside.Due.{cron_jobs}
-use Rattle.cron_session.specs.inside.Marking.{MarksAndSubmits}
+use Rattle.cron_session.specs.inside.MarkThenSubmit.{MarksAndSubmits}
 use Rattle.cron_session.proofs.DueLemmas.{due_are_short}
 use Rattle.cron_session.proofs.WorkLemmas.{due_at_now, due_submitted, due_wants, room_refused, submits_due_at}
 use Rattle.cron_session.proofs.work.submit_due.Goals as goal

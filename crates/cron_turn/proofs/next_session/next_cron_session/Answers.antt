@@ -1,8 +1,8 @@
 use Rattle.std.proofs.Common.{◌≡◌, ◌∙◌, ℤ, FitsSigned, Some, ap, inl, of_z, refl, rules, subst, to_z, w64}
 use Rattle.std.proofs.lemmas.Int.{to_z-of_z}
-use Rattle.cause_output.specs.Outside.{input_at}
-use Rattle.clock_range.specs.ClockRange.{IsClockSecond}
-use Rattle.cron_session.specs.Leaving.{CronsTo}
+use Rattle.tool_output.specs.Outside.{input_at}
+use Rattle.host_calls.specs.ClockRange.{IsClockSecond}
+use Rattle.cron_session.specs.SessionOutcome.{CronsTo}
 use Rattle.cron_turn.specs.Items.{CronItem, rest_after_session}
 use Rattle.cron_turn.specs.Outside.{run_at, spool_at, cron_telling}
 use Rattle.cron_turn.proofs.ReadLemmas.{asked, stops_reading}

@@ -1,5 +1,5 @@
 use Rattle.std.proofs.Common.{◌∙◌, None, arith, refl, sym}
-use Rattle.cause_output.specs.Outside.{clock_at}
+use Rattle.tool_output.specs.Outside.{clock_at}
 use Rattle.cron_turn.specs.Outside.{run_at, cron_telling}
 use Rattle.cron_turn.proofs.RunLemmas.{none_served, one_served, rests_before, served_all, served_short, stays_on, stays_rested, stays_same}
 use Rattle.cron_turn.proofs.sessions.make_cron_sessions.Goals as goal

@@ -1,6 +1,6 @@
 use Rattle.std.proofs.Common.{◌≡◌}
 use Rattle.cron_turn.specs.Outside.{StaysSo, run_at, cron_telling}
-use Rattle.cron_turn.specs.inside.Turning.{HasMadeSessions}
+use Rattle.cron_turn.specs.inside.NextSession.{HasMadeSessions}
 use Rattle.cron_turn.proofs.sessions.make_cron_sessions.Given as goal
 
 abbrev pub invariant-loop-turn : goal.invariant-loop-turn

@@ -22,6 +22,6 @@ returns c =
     let queue_is : c.unwrap-job.result.queue ≡ file.job.queue =
     (and_some (λ (job : JobName). (job.queue ≡ file.job.queue) × (job.number ≡ c.args.number) × (job.minute ≡ file.job.minute) × (job.new_form ≡ is_new_form c.args.store.now.old_form c.args.number)) c.read.result c.unwrap-job.result c.unwrap-job.ensures
     (c.read.ensures.found file.job.queue c.args.number file.job.minute (is_new_form c.args.store.now.old_form c.args.number) (named c.args.store.now.table c.args.store.now.old_form c.args.number c.unwrap-name.result c.as_bytes.result.now c.as_bytes.ensures.bytes file))).0 in
-    λ folder table current.
-    script_is c.args.store.now folder table c.args.number c.unwrap-name.result c.unwrap-job.result.queue c.nice_of.result file queue_is c.nice_of.ensures current
-    (of_some (HoldsScript table folder c.args.number) c.file.result c.unwrap-name.result c.unwrap-name.ensures (c.file.ensures.holds folder table current))
+    λ directory table current.
+    script_is c.args.store.now directory table c.args.number c.unwrap-name.result c.unwrap-job.result.queue c.nice_of.result file queue_is c.nice_of.ensures current
+    (of_some (HoldsScript table directory c.args.number) c.file.result c.unwrap-name.result c.unwrap-name.ensures (c.file.ensures.holds directory table current))

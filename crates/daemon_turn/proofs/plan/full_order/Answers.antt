@@ -1,6 +1,6 @@
 use Rattle.std.proofs.Common.{◌≡◌, ◌++◌, rules}
 use Rattle.std.specs.Option.{option_to_list}
-use Rattle.daemon_turn.specs.Starting.{turn_of}
+use Rattle.daemon_turn.specs.StartOrder.{turn_of}
 use Rattle.daemon_turn.proofs.PlanLemmas.{clock_same, order_in_line}
 use Rattle.daemon_turn.proofs.plan.full_order.Goals as goal
 use Rattle.daemon_turn.proofs.plan.full_order.Goals.{in-Some+in_ok-push, in_default}

@@ -1,5 +1,5 @@
 use Rattle.std.proofs.Common.{ℤ, subst}
-use Rattle.daemon_turn.specs.Leaving.{TurnsTo}
+use Rattle.daemon_turn.specs.TurnOutcome.{TurnsTo}
 use Rattle.daemon_turn.proofs.PlanLemmas.{clock_same}
 use Rattle.daemon_turn.proofs.twice.turn_twice.Goals as goal
 

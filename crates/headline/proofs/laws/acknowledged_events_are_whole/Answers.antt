@@ -1,4 +1,4 @@
-use Rattle.headline.proofs.StandingLemmas.{acknowledged_events_are_whole}
+use Rattle.headline.proofs.StateLemmas.{acknowledged_events_are_whole}
 use Rattle.headline.proofs.laws.acknowledged_events_are_whole.Goals as goal
 
 pub returns : goal.returns

@@ -1,4 +1,4 @@
-use Rattle.headline.proofs.StandingLemmas.{events_pass_on, later_events_leave, still_worlds_are_unbegun}
+use Rattle.headline.proofs.StateLemmas.{events_pass_on, later_events_leave, still_worlds_are_unbegun}
 use Rattle.headline.proofs.laws.events_pass_on.Goals as goal
 
 pub returns-clause-pass : goal.returns-clause-pass

@@ -1,5 +1,5 @@
 use Rattle.std.proofs.Common.{subst, sym}
-use Rattle.clock_range.specs.ClockRange.{IsClockMinute}
+use Rattle.host_calls.specs.ClockRange.{IsClockMinute}
 use Rattle.listing_text.specs.Listing.{ShowsRow}
 use Rattle.spool_model.specs.declared.row.Row.{Row}
 use Rattle.job_listing.proofs.LineLemmas.{one_more}

@@ -1,7 +1,7 @@
 use Rattle.std.proofs.Common.{◌≡◌, ◌&&◌, Bool, List, All, Contains, IsPermutation, filter, ap, subst, sym, ◌∙◌, ℕ}
 use Rattle.std.proofs.lemmas.List.Elements.{All-contains_itself, All-filter, All-weaker}
 use Rattle.std.proofs.lemmas.List.Sorted.{All-permutation}
-use Rattle.clock_range.specs.ClockRange.{IsClockMinute}
+use Rattle.host_calls.specs.ClockRange.{IsClockMinute}
 use Rattle.command_rules.specs.Requested.{passes_of}
 use Rattle.job_listing.specs.inside.Lines.{ShowsRows}
 use Rattle.listing_text.specs.Listing.{IsListing, may_see}

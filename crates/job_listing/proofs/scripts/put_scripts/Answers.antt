@@ -1,7 +1,7 @@
 use Rattle.std.proofs.Common.{rules, subst, sym}
 use Rattle.host_calls.specs.World.{World}
 use Rattle.step_runs.specs.Current.{IsCurrent}
-use Rattle.cause_output.specs.Sinks.{sink_at}
+use Rattle.tool_output.specs.Sinks.{sink_at}
 use Rattle.job_listing.proofs.ScriptLemmas.{none_put, one_more, stopped_by_mark}
 use Rattle.job_listing.proofs.scripts.put_scripts.Goals as goal
 
@@ -19,7 +19,7 @@ put_script-requires-clause-inside g c = c.loop-number.invariant.inside.inside
 pub put_script-requires-clause-current : goal.put_script-requires-clause-current
 put_script-requires-clause-current g c = λ known. (
   (c.requires.current known).0,
-  subst (λ (world : World). IsCurrent c.args.store.now world.now.folder (c.requires.current known).0)
+  subst (λ (world : World). IsCurrent c.args.store.now world.now.directory (c.requires.current known).0)
       (sym (c.loop-number.invariant.puts.looks known)) (c.requires.current known).1,
 )
 

@@ -1,7 +1,7 @@
 use Rattle.std.proofs.Common.{◌≡◌, take}
 use Rattle.std.specs.Prelude.{Ok}
 use Rattle.host_calls.specs.Session.{StaysInside}
-use Rattle.cause_output.specs.Sinks.{sink_at}
+use Rattle.tool_output.specs.Sinks.{sink_at}
 use Rattle.job_listing.specs.Scripts.{PutsScripts}
 use Rattle.job_listing.proofs.scripts.put_scripts.Given as goal
 

@@ -6,7 +6,7 @@ use Rattle.job_script.specs.declared.headers.JobHeader.{JobHeader}
 use Rattle.job_script.proofs.HeaderLemmas.{one_header}
 use Rattle.job_script.proofs.headers.header.Goals as goal
 
--- the header that was read is the one that stands there
+-- the header that was read is the one that is there
 the_one : (bytes user : List ℕ) (mail : Bool) → BeginsWithHeader bytes user mail → (r : Result JobHeader ℕ)
     → MatchResult r (λ found. BeginsWithHeader bytes found.user found.mail) (λ place. IsHeaderFault bytes place)
     → IfSome (result_ok r) (λ found. (found.user ≡ user) × (found.mail ≡ mail))

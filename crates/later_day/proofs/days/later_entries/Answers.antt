@@ -1,6 +1,6 @@
 use Rattle.std.proofs.Common.{◌≡◌, ◌++◌, [], ◌∷◌, ◌<◌, arith, length, subst, sym}
 use Rattle.std.proofs.lemmas.List.{take_all}
-use Rattle.later_day.specs.LaterHappening.{IsLaterEvent}
+use Rattle.later_day.specs.LaterEventEffects.{IsLaterEvent}
 use Rattle.later_day.specs.LaterMachines.{first_later_machine, later_machine}
 use Rattle.at_day.proofs.OutcomeLemmas.{on_err, unchanged_same}
 use Rattle.later_day.proofs.LaterLoop.{later_cut_after, later_cut_at, later_day_of, later_so_far_at_first, later_so_far_more, outside_unreported}

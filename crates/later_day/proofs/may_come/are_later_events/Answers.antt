@@ -1,7 +1,7 @@
 use Rattle.std.proofs.Common.{◌<◌, IsTrue, arith, length, refl, rules, subst, sym, take}
 use Rattle.std.proofs.lemmas.List.{take_all}
 use Rattle.std.proofs.lemmas.List.Elements.{All-more, All-same}
-use Rattle.later_day.specs.LaterHappening.{IsLaterEvent}
+use Rattle.later_day.specs.LaterEventEffects.{IsLaterEvent}
 use Rattle.later_day.proofs.may_come.are_later_events.Goals as goal
 
 pub loop-event-preserved : goal.loop-event-preserved

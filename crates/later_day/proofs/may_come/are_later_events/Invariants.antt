@@ -1,5 +1,5 @@
 use Rattle.std.proofs.Common.{All, take}
-use Rattle.later_day.specs.LaterHappening.{IsLaterEvent}
+use Rattle.later_day.specs.LaterEventEffects.{IsLaterEvent}
 use Rattle.later_day.proofs.may_come.are_later_events.Given as goal
 
 -- the events so far may come

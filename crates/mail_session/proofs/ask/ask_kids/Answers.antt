@@ -3,7 +3,7 @@ use Rattle.host_calls.specs.declared.child.Child.{Child}
 use Rattle.host_calls.specs.World.{Asks}
 use Rattle.std.specs.Prelude.{Contains, Ok}
 use Rattle.daemon_turn.specs.declared.kid.Kid.{Kid}
-use Rattle.mail_session.specs.inside.Staying.{IsChildAt}
+use Rattle.mail_session.specs.inside.RemainingChildren.{IsChildAt}
 use Rattle.mail_session.proofs.AskingLemmas.{all_asked, child_held, none_asked, one_asked, place_inside, some_asked}
 use Rattle.std.proofs.Common.{List}
 use Rattle.mail_session.proofs.ask.ask_kids.Goals as goal

@@ -5,7 +5,7 @@ use Rattle.mail_notes.specs.Lines.{note_line}
 use Rattle.mail_session.specs.declared.due.NoticeDue.{NoticeDue}
 use Rattle.mail_session.specs.declared.due.NoticeDue.TheVariants.{Drop, Send}
 use Rattle.mail_session.specs.Dues.{note_of}
-use Rattle.mail_session.specs.Posting.{Posts}
+use Rattle.mail_session.specs.DueNotices.{Posts}
 use Rattle.mail_session.proofs.PostLemmas.{drop_ends, not_sent, posts_at, posts_nothing, posts_with_room, sent_one}
 use Rattle.mail_session.proofs.post.post.Goals as goal
 

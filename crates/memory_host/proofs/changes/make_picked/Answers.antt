@@ -13,6 +13,6 @@ pub loop-number-preserved : goal.loop-number-preserved
 loop-number-preserved c = record {
   now = λ name. picked_step c.args.changes.now c.loop-number.number c.index-changes-number.result c.loop-number-test.true c.index-changes-number.is c.args.pick (now_in c.loop-number.held) (now_in c.args.held.now)
       c.loop-number.invariant.now name _ (c.make_if_picked.ensures.now name);
-  certain = λ name. c.make_if_picked.ensures.certain name ∙ c.loop-number.invariant.certain name;
+  durable = λ name. c.make_if_picked.ensures.durable name ∙ c.loop-number.invariant.durable name;
   places = λ name. c.make_if_picked.ensures.places name ∙ c.loop-number.invariant.places name;
 }

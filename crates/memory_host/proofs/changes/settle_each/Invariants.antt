@@ -1,9 +1,9 @@
 use Rattle.std.proofs.Common.{◌≡◌, ℕ, List, take}
-use Rattle.memory_host.specs.inside.Table.{HoldsSameNow, now_in, certain_in, where_touched}
+use Rattle.memory_host.specs.inside.Table.{HoldsSameNow, now_in, durable_in, where_touched}
 use Rattle.memory_host.proofs.changes.settle_each.Given as goal
 
 abbrev pub invariant-loop-change : goal.invariant-loop-change
 invariant-loop-change l = record {
   now : HoldsSameNow l.initial.held l.held;
-  certain : (name : List ℕ) → certain_in l.held name ≡ where_touched (take l.change-index l.changes) (now_in l.initial.held) (certain_in l.initial.held) name;
+  durable : (name : List ℕ) → durable_in l.held name ≡ where_touched (take l.change-index l.changes) (now_in l.initial.held) (durable_in l.initial.held) name;
 }

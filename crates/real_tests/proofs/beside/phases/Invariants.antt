@@ -3,4 +3,4 @@ use Rattle.real_tests.proofs.beside.phases.Given as goal
 
 -- no session is on
 abbrev pub invariant-loop-one : goal.invariant-loop-one
-invariant-loop-one g l = IsOutside (g.H.Host.session l.folder)
+invariant-loop-one g l = IsOutside (g.H.Host.session l.directory)

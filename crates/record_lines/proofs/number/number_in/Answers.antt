@@ -1,6 +1,6 @@
 use Rattle.std.proofs.Common.{subst, sym}
-use Rattle.hex_digits.specs.Digits.{SpellsNumber}
-use Rattle.hex_digits.proofs.EightDigits.{digits_spelled, spelled_eight}
+use Rattle.text_reader.specs.HexDigits.{SpellsNumber}
+use Rattle.text_reader.proofs.EightDigits.{digits_spelled, spelled_eight}
 use Rattle.record_lines.proofs.number.number_in.Goals as goal
 
 pub returns-in_err-number-clause-none : goal.returns-in_err-number-clause-none

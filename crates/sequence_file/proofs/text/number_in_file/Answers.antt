@@ -1,5 +1,5 @@
 use Rattle.std.proofs.Common.{sym, subst, take}
-use Rattle.hex_digits.specs.Digits.{SpellsNumber}
+use Rattle.text_reader.specs.HexDigits.{SpellsNumber}
 use Rattle.sequence_file.proofs.text.number_in_file.Goals as goal
 
 pub returns-in_err-number-clause-none : goal.returns-in_err-number-clause-none

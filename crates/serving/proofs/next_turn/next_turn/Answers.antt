@@ -1,13 +1,13 @@
 use Rattle.std.proofs.Common.{◌≡◌, ℤ, FitsSigned, refl, rules, w64, to_z, of_z, sym, subst, ap, ◌∙◌, Bool, true, false}
 use Rattle.std.proofs.lemmas.Int.{to_z-of_z}
 use Rattle.std.specs.Prelude.{IsTrue}
-use Rattle.clock_range.specs.ClockRange.{IsClockSecond}
-use Rattle.cause_output.specs.Sinks.{sink_at}
+use Rattle.host_calls.specs.ClockRange.{IsClockSecond}
+use Rattle.tool_output.specs.Sinks.{sink_at}
 use Rattle.serving.specs.Items.{TurnItem, next_rest}
 use Rattle.serving.specs.Lines.{step_lines}
 use Rattle.serving.specs.Serves.{ServeState, serve_at}
-use Rattle.cause_output.specs.Outside.{telling}
-use Rattle.serving.specs.inside.Progressing.{PrintsMore}
+use Rattle.tool_output.specs.Outside.{telling}
+use Rattle.serving.specs.inside.NextTurn.{PrintsMore}
 use Rattle.serving.proofs.ProceedLemmas.{answers_turn, ended_at_clock, ended_at_line, proceeds, served_by}
 use Rattle.serving.proofs.ServeLemmas.{rests_after}
 use Rattle.serving.proofs.next_turn.next_turn.Goals as goal

@@ -1,5 +1,5 @@
 use Rattle.std.proofs.Common.{refl}
-use Rattle.cause_output.specs.Sinks.{sink_at}
+use Rattle.tool_output.specs.Sinks.{sink_at}
 use Rattle.serving.specs.Lines.{step_lines}
 use Rattle.serving.proofs.SinkLemmas.{more_cut, more_part, more_uncut}
 use Rattle.serving.proofs.next_turn.print_unless.Goals as goal

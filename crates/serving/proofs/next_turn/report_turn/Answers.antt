@@ -1,4 +1,4 @@
-use Rattle.cause_output.specs.Sinks.{sink_at}
+use Rattle.tool_output.specs.Sinks.{sink_at}
 use Rattle.serving.specs.Lines.{step_lines}
 use Rattle.serving.proofs.SinkLemmas.{more_for}
 use Rattle.serving.proofs.next_turn.report_turn.Goals as goal

@@ -1,8 +1,8 @@
 use Rattle.std.proofs.Common.{refl, ◌∙◌, [], ◌∷◌, ◌++◌, length, ◌≡◌, ◌+◌, arith, false}
-use Rattle.cause_output.specs.Sinks.{sink_at}
-use Rattle.host_session.proofs.SessionLemmas.{counts_on, no_counts}
+use Rattle.tool_output.specs.Sinks.{sink_at}
+use Rattle.host_calls.proofs.SessionLemmas.{counts_on, no_counts}
 use Rattle.serving.specs.Serves.{serve_at}
-use Rattle.cause_output.specs.Outside.{telling}
+use Rattle.tool_output.specs.Outside.{telling}
 use Rattle.serving.proofs.ProceedLemmas.{ended_made, nothing_served}
 use Rattle.serving.proofs.ServeLemmas.{children_same, children_then, one_longer}
 use Rattle.serving.proofs.serve_loop.make_turns.Goals as goal

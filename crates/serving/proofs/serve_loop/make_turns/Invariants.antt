@@ -1,11 +1,11 @@
 use Rattle.std.proofs.Common.{◌≡◌, List, length, false}
-use Rattle.cause_output.specs.Sinks.{sink_at}
+use Rattle.tool_output.specs.Sinks.{sink_at}
 use Rattle.daemon_turn.specs.Kids.{AreChildren, KeepsChildren}
 use Rattle.host_calls.specs.Session.{IsOutside, KeepsCounts}
 use Rattle.serving.specs.Items.{TurnItem}
 use Rattle.serving.specs.Serves.{serve_at}
-use Rattle.cause_output.specs.Outside.{telling}
-use Rattle.serving.specs.inside.Progressing.{HasServed}
+use Rattle.tool_output.specs.Outside.{telling}
+use Rattle.serving.specs.inside.NextTurn.{HasServed}
 use Rattle.serving.proofs.serve_loop.make_turns.Given as goal
 
 abbrev pub invariant-loop-turn : goal.invariant-loop-turn

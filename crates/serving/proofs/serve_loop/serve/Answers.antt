@@ -1,5 +1,5 @@
 use Rattle.std.proofs.Common.{◌∙◌}
-use Rattle.cause_output.specs.Sinks.{sink_at}
+use Rattle.tool_output.specs.Sinks.{sink_at}
 use Rattle.listing_text.specs.declared.cause.Cause.TheVariants as cause
 use Rattle.serving.proofs.OutcomeLemmas.{ended_caused, risen_by}
 use Rattle.serving.proofs.ProceedLemmas.{serving_of}

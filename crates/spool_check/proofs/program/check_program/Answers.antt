@@ -1,6 +1,6 @@
 use Rattle.std.proofs.Common.{ap, codes, sym, subst}
-use Rattle.cause_output.specs.Outside.{stream_at}
-use Rattle.cause_output.specs.Saying.{IsSaid}
+use Rattle.tool_output.specs.Outside.{stream_at}
+use Rattle.tool_output.specs.SaidLines.{IsSaid}
 use Rattle.listing_text.specs.declared.cause.Cause.{Cause}
 use Rattle.listing_text.specs.declared.status.Status.{Status}
 use Rattle.spool_check.proofs.program.check_program.Goals as goal

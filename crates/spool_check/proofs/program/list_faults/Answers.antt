@@ -1,8 +1,8 @@
 use Rattle.std.proofs.Common.{false, sym, subst, ◌∙◌}
-use Rattle.cause_output.specs.Outside.{folder_at, stream_at}
+use Rattle.tool_output.specs.Outside.{directory_at, stream_at}
 use Rattle.listing_text.specs.declared.cause.Cause.{Cause}
-use Rattle.spool_check.specs.Checking.{Checks}
-use Rattle.spool_check.specs.inside.Looking.{cause_by}
+use Rattle.spool_check.specs.CheckOutcome.{Checks}
+use Rattle.spool_check.specs.inside.CheckParts.{cause_by}
 use Rattle.spool_check.proofs.CheckLemmas.{listed, look_stopped, stop_by, tells_no_file, tells_no_lock}
 use Rattle.spool_check.proofs.program.list_faults.Goals as goal
 

@@ -1,6 +1,6 @@
 use Rattle.std.proofs.Common.{arith, length, rules, ◌≤◌}
-use Rattle.cause_output.specs.Sinks.{sink_at}
-use Rattle.cause_output.proofs.LineLemmas.{one_more, stopped_at_line}
+use Rattle.tool_output.specs.Sinks.{sink_at}
+use Rattle.tool_output.proofs.LineLemmas.{one_more, stopped_at_line}
 use Rattle.listing_text.specs.Cause.{fault_line_of}
 use Rattle.spool_check.proofs.tell.put_faults.Goals as goal
 

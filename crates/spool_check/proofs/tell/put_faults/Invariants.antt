@@ -1,7 +1,7 @@
 use Rattle.std.proofs.Common.{◌≡◌, take}
 use Rattle.std.specs.Prelude.{Ok}
-use Rattle.cause_output.specs.Putting.{PutsLines, joined_lines}
-use Rattle.cause_output.specs.Sinks.{sink_at}
+use Rattle.tool_output.specs.PutLines.{PutsLines, joined_lines}
+use Rattle.tool_output.specs.Sinks.{sink_at}
 use Rattle.listing_text.specs.Cause.{fault_line_of}
 use Rattle.spool_check.proofs.tell.put_faults.Given as goal
 

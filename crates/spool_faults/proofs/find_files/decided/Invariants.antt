@@ -1,5 +1,5 @@
 use Rattle.std.proofs.Common.{take}
-use Rattle.spool_faults.specs.inside.Finding.{AreDecidedNumbers}
+use Rattle.spool_faults.specs.inside.FoundFiles.{AreDecidedNumbers}
 use Rattle.spool_faults.proofs.find_files.decided.Given as goal
 
 abbrev pub invariant-loop-mark : goal.invariant-loop-mark

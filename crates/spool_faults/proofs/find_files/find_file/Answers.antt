@@ -1,5 +1,5 @@
 use Rattle.std.proofs.Common.{◌∙◌}
-use Rattle.spool_faults.specs.inside.Finding.{files_found}
+use Rattle.spool_faults.specs.inside.FoundFiles.{files_found}
 use Rattle.spool_shows.proofs.FilesSoFar.{prefix_read}
 use Rattle.spool_faults.proofs.FoundFiles.{counted_found, other_found}
 use Rattle.spool_faults.proofs.find_files.find_file.Goals as goal

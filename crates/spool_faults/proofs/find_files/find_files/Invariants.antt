@@ -4,7 +4,7 @@ use Rattle.host_calls.specs.Session.{StaysInside}
 use Rattle.host_calls.specs.World.{reading}
 use Rattle.spool_shows.specs.JobFiles.{job_files}
 use Rattle.start_journal.specs.declared.mark.Mark.{Mark}
-use Rattle.spool_faults.specs.inside.Finding.{AreDecidedNumbers, files_found, prefix_of}
+use Rattle.spool_faults.specs.inside.FoundFiles.{AreDecidedNumbers, files_found, prefix_of}
 use Rattle.spool_faults.proofs.find_files.find_files.Given as goal
 
 abbrev pub invariant-loop-name : goal.invariant-loop-name

@@ -2,7 +2,7 @@ use Rattle.std.proofs.Common.{◌∙◌, ap, refl}
 use Rattle.std.specs.Prelude.{is_some}
 use Rattle.spool_faults.specs.declared.first_files.FirstFile.{FirstFile}
 use Rattle.spool_faults.specs.declared.first_files.FirstFiles.{FirstFiles}
-use Rattle.spool_faults.specs.inside.Finding.{file_found}
+use Rattle.spool_faults.specs.inside.FoundFiles.{file_found}
 use Rattle.spool_faults.proofs.FirstFound.{first_known, first_new, first_same}
 use Rattle.spool_faults.proofs.first_files.add_first.Goals as goal
 use Rattle.spool_faults.proofs.first_files.add_first.Goals.{then-is_some-via-then-is_some, then-is_some-via-else-is_some+then-contains_key}

@@ -1,7 +1,7 @@
 use Rattle.std.proofs.Common.{take}
 use Rattle.std.specs.List.{filter}
 use Rattle.spool_faults.specs.Faults.{has_header}
-use Rattle.spool_faults.specs.inside.Finding.{AreFirstFiles, files_found}
+use Rattle.spool_faults.specs.inside.FoundFiles.{AreFirstFiles, files_found}
 use Rattle.spool_faults.proofs.first_files.first_files.Given as goal
 
 abbrev pub invariant-loop-file : goal.invariant-loop-file

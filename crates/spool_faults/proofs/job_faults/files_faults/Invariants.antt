@@ -1,6 +1,6 @@
 use Rattle.std.proofs.Common.{◌≡◌, ◌++◌, [], drop, take}
 use Rattle.spool_faults.specs.Faults.{files_faults}
-use Rattle.spool_faults.specs.inside.Finding.{HasNumbers, files_found, numbers_from}
+use Rattle.spool_faults.specs.inside.FoundFiles.{HasNumbers, files_found, numbers_from}
 use Rattle.spool_faults.proofs.job_faults.files_faults.Given as goal
 
 abbrev pub invariant-loop-file : goal.invariant-loop-file

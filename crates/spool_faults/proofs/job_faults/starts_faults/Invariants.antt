@@ -1,6 +1,6 @@
 use Rattle.std.proofs.Common.{◌≡◌, ◌++◌, List, take}
 use Rattle.spool_faults.specs.Faults.{starts_faults}
-use Rattle.spool_faults.specs.inside.Finding.{AreDecidedNumbers, AreQueues}
+use Rattle.spool_faults.specs.inside.FoundFiles.{AreDecidedNumbers, AreQueues}
 use Rattle.spool_shows.specs.JobFiles.{JobFile}
 use Rattle.start_journal.specs.declared.mark.Mark.{Mark}
 use Rattle.spool_faults.proofs.job_faults.starts_faults.Given as goal

@@ -1,4 +1,4 @@
-use Rattle.spool_faults.proofs.FirstFault.{damage_is_the_first_fault as first, faultless_folders_are_saved_whole as whole}
+use Rattle.spool_faults.proofs.FirstFault.{damage_is_the_first_fault as first, faultless_directories_are_saved_whole as whole}
 use Rattle.spool_faults.proofs.laws.damage_is_the_first_fault.Goals as goal
 
 pub returns-clause-first : goal.returns-clause-first

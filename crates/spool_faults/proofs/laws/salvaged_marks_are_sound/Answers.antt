@@ -1,5 +1,5 @@
 use Rattle.std.specs.FinMap.{entries, find}
-use Rattle.host_calls.specs.Folder.{name_cmp}
+use Rattle.host_calls.specs.Directory.{name_cmp}
 use Rattle.sequence_file.specs.LastNumber.{last_in}
 use Rattle.sequence_file.specs.Sequence.{sequence_file}
 use Rattle.start_journal.specs.Journals.{journal_file}

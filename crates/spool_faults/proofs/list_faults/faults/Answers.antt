@@ -8,16 +8,16 @@ pub returns-in_err-settle-clause-leaves : goal.returns-in_err-settle-clause-leav
 returns-in_err-settle-clause-leaves g c = λ tells.
     settling_leaves (g.H.Host.world c.args.host.now) (g.H.Host.world c.settle.new.self) c.settle.result (c.settle.ensures.files tells)
 
-pub returns-in_err-take_look-clause-leaves : goal.returns-in_err-take_look-clause-leaves
-returns-in_err-take_look-clause-leaves g c = λ tells.
-    looked_leaves (g.H.Host.world c.args.host.now) (g.H.Host.world c.settle.new.self) (g.H.Host.world c.take_look.new.host) c.settle.result (c.settle.ensures.files tells) (c.take_look.ensures.looks tells)
+pub returns-in_err-scan_spool-clause-leaves : goal.returns-in_err-scan_spool-clause-leaves
+returns-in_err-scan_spool-clause-leaves g c = λ tells.
+    looked_leaves (g.H.Host.world c.args.host.now) (g.H.Host.world c.settle.new.self) (g.H.Host.world c.scan_spool.new.host) c.settle.result (c.settle.ensures.files tells) (c.scan_spool.ensures.looks tells)
 
 pub returns-clause-leaves : goal.returns-clause-leaves
 returns-clause-leaves g c = λ tells.
-    looked_leaves (g.H.Host.world c.args.host.now) (g.H.Host.world c.settle.new.self) (g.H.Host.world c.take_look.new.host) c.settle.result (c.settle.ensures.files tells) (c.take_look.ensures.looks tells)
+    looked_leaves (g.H.Host.world c.args.host.now) (g.H.Host.world c.settle.new.self) (g.H.Host.world c.scan_spool.new.host) c.settle.result (c.settle.ensures.files tells) (c.scan_spool.ensures.looks tells)
 
 pub returns-clause-listed : goal.returns-clause-listed
 returns-clause-listed g c = λ tells.
-    c.in_ok-take_look.ensures.faults tells
+    c.in_ok-scan_spool.ensures.faults tells
     ∙ ap (λ list. list ++ faults_of (reading (g.H.Host.world c.settle.new.self))) c.new-faults.ensures.items
     ∙ ap faults_of (settling_leaves (g.H.Host.world c.args.host.now) (g.H.Host.world c.settle.new.self) c.settle.result (c.settle.ensures.files tells)).same

@@ -1,7 +1,7 @@
 use Rattle.std.proofs.Common.{◌≡◌, ◌++◌, [], take}
 use Rattle.std.specs.List.{filter_map}
-use Rattle.spool_faults.specs.inside.Finding.{file_first}
-use Rattle.spool_faults.specs.inside.Saving.{name_unless}
+use Rattle.spool_faults.specs.inside.FoundFiles.{file_first}
+use Rattle.spool_faults.specs.inside.SavedParts.{name_unless}
 use Rattle.spool_faults.proofs.plan.names_left.Given as goal
 
 abbrev pub invariant-loop-file : goal.invariant-loop-file

@@ -1,6 +1,6 @@
 use Rattle.std.proofs.Common.{◌≡◌, ◌++◌, List, take}
 use Rattle.std.specs.List.{filter_map}
-use Rattle.spool_faults.specs.inside.Finding.{AreDecidedNumbers, AreQueues}
+use Rattle.spool_faults.specs.inside.FoundFiles.{AreDecidedNumbers, AreQueues}
 use Rattle.spool_faults.specs.Salvaged.{given_up}
 use Rattle.spool_shows.specs.JobFiles.{JobFile}
 use Rattle.start_journal.specs.declared.mark.Mark.{Mark}

@@ -1,6 +1,6 @@
 use Rattle.std.proofs.Common.{◌∙◌, ap}
-use Rattle.spool_faults.specs.inside.Finding.{file_first}
-use Rattle.spool_faults.specs.inside.Saving.{removal_unless}
+use Rattle.spool_faults.specs.inside.FoundFiles.{file_first}
+use Rattle.spool_faults.specs.inside.SavedParts.{removal_unless}
 use Rattle.spool_faults.proofs.SavingLists.{given_end, given_step}
 use Rattle.spool_faults.proofs.saved_marks.remove_unnamed.Goals as goal
 

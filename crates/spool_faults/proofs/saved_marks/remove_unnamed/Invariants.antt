@@ -1,7 +1,7 @@
 use Rattle.std.proofs.Common.{◌≡◌, ◌++◌, take}
 use Rattle.std.specs.List.{filter_map}
-use Rattle.spool_faults.specs.inside.Finding.{file_first}
-use Rattle.spool_faults.specs.inside.Saving.{removal_unless}
+use Rattle.spool_faults.specs.inside.FoundFiles.{file_first}
+use Rattle.spool_faults.specs.inside.SavedParts.{removal_unless}
 use Rattle.start_journal.specs.Journals.{AreWritable}
 use Rattle.spool_faults.proofs.saved_marks.remove_unnamed.Given as goal
 

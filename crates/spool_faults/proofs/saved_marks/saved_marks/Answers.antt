@@ -2,8 +2,8 @@ use Rattle.std.proofs.Common.{◌≡◌, ◌∙◌, ◌++◌, [], sym, ap}
 use Rattle.std.specs.List.{filter_map}
 use Rattle.spool_faults.specs.Faults.{first_files}
 use Rattle.spool_faults.specs.Salvaged.{given_up}
-use Rattle.spool_faults.specs.inside.Finding.{file_first}
-use Rattle.spool_faults.specs.inside.Saving.{removal_unless}
+use Rattle.spool_faults.specs.inside.FoundFiles.{file_first}
+use Rattle.spool_faults.specs.inside.SavedParts.{removal_unless}
 use Rattle.spool_faults.proofs.Planned.{queues_taken, saved_lost, saved_plain}
 use Rattle.spool_faults.proofs.SavingLists.{taken_back_are}
 use Rattle.spool_faults.proofs.saved_marks.saved_marks.Goals as goal

@@ -32,4 +32,4 @@ returns-clause-marked g c = λ tells old_form table step is. add_marked old_form
 }) c.add.result c.add.ensures.journal (c.add.ensures.added tells)
 
 pub returns-clause-others : goal.returns-clause-others
-returns-clause-others g c = λ tells. keeps_through (g.H.Host.world c.args.host.now).now.folder (g.H.Host.world c.with_free_slot.new.host).now.folder (g.H.Host.world c.add.new.host).now.folder _ c.add.result (c.in_ok-journal.ensures.others tells) (c.add.ensures.added tells)
+returns-clause-others g c = λ tells. keeps_through (g.H.Host.world c.args.host.now).now.directory (g.H.Host.world c.with_free_slot.new.host).now.directory (g.H.Host.world c.add.new.host).now.directory _ c.add.result (c.in_ok-journal.ensures.others tells) (c.add.ensures.added tells)

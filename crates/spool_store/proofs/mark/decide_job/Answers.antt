@@ -10,7 +10,7 @@ pub returns-in_err-journal-clause-files : goal.returns-in_err-journal-clause-fil
 returns-in_err-journal-clause-files g c = λ tells old_form table step decision. unmarked_call old_form table step _ _ (c.add_mark.ensures.files tells old_form table step decision.is_mark) c.from_residual.result c.from_residual.ensures.0
 
 pub clear-requires-clause-held : goal.clear-requires-clause-held
-clear-requires-clause-held g c = λ tells. decided_held _ c.args.journal _ (g.H.Host.world c.add_mark.new.host).now.folder _ _ c.args.mark c.args.file.now (c.requires.current tells).3 (c.in_ok-journal.ensures.others tells)
+clear-requires-clause-held g c = λ tells. decided_held _ c.args.journal _ (g.H.Host.world c.add_mark.new.host).now.directory _ _ c.args.mark c.args.file.now (c.requires.current tells).3 (c.in_ok-journal.ensures.others tells)
 
 pub returns-in_err-clear-clause-files : goal.returns-in_err-clear-clause-files
 returns-in_err-clear-clause-files g c = λ tells old_form table step decision. uncleared_call old_form c.args.journal c.in_ok-journal.journal table step c.args.mark c.args.file.now _ _ _ (record {

@@ -3,8 +3,8 @@ use Rattle.spool_model.specs.declared.row.Row.{Row}
 use Rattle.spool_store.specs.Listed.{AreSortedEntries}
 use Rattle.spool_store.specs.Rows.{row_entry}
 use Rattle.spool_store.specs.inside.JobRows.{ListsRows, rows_by_number}
-use Rattle.spool_store.specs.inside.SurveyedJobs.{files_surveyed}
-use Rattle.spool_store.proofs.ListLemmas.{lists_drawn, lists_table, surveyed_number}
+use Rattle.spool_store.specs.inside.ScannedJobs.{files_scanned}
+use Rattle.spool_store.proofs.ListLemmas.{lists_drawn, lists_table, scanned_number}
 use Rattle.spool_store.proofs.ListedLemmas.{rows_in_order}
 use Rattle.spool_store.proofs.TableLemmas.{no_damage, unnumbered}
 use Rattle.spool_store.proofs.tables.listed.Goals as goal
@@ -16,7 +16,7 @@ starts_fault-requires-clause-order c =
 
 pub returns-clause-table : goal.returns-clause-table
 returns-clause-table c =
-    let files = files_surveyed c.args.surveyed.now in
+    let files = files_scanned c.args.scanned.now in
     let rows = c.in_ok-rows.rows.items in
     let have = c.in_ok-rows.ensures c.args.marks.now c.requires.known in
     lists_table c.args.last c.args.marks.now files (rows_by_number rows) c.args.lives.now _ _ c.requires.known have.1.are
@@ -26,9 +26,9 @@ returns-clause-table c =
 
 pub returns-clause-drawn : goal.returns-clause-drawn
 returns-clause-drawn c = λ undecided writable drawn.
-    let files = files_surveyed c.args.surveyed.now in
+    let files = files_scanned c.args.scanned.now in
     let rows = c.in_ok-rows.rows.items in
     let have = c.in_ok-rows.ensures c.args.marks.now c.requires.known in
     lists_drawn c.args.last c.args.marks.now files (rows_by_number rows) c.args.lives.now _ _ c.requires.known have.1.are
     have.1.rise c.in_ok-decided.ensures.ordered (sym (unnumbered rows)) c.in_ok-decided.ensures.items
-    have.0 undecided writable drawn (surveyed_number c.args.surveyed.now)
+    have.0 undecided writable drawn (scanned_number c.args.scanned.now)

@@ -1,5 +1,5 @@
 use Rattle.std.proofs.Common.{take}
-use Rattle.start_journal.specs.inside.Keeping.{AreForgotten}
+use Rattle.start_journal.specs.inside.ForgottenNumbers.{AreForgotten}
 use Rattle.start_journal.proofs.kept_marks.forgotten.Given as goal
 
 abbrev pub invariant-loop-mark : goal.invariant-loop-mark

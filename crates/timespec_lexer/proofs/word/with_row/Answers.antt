@@ -6,9 +6,9 @@ use Rattle.timespec_lexer.proofs.word.with_row.Goals as goal
 pub returns-then-not-has_word : goal.returns-then-not-has_word
 returns-then-not-has_word c = λ table kept.
     best_past c.args.text.now c.args.place table c.args.longest c.args.row.now.0.now c.args.row.now.1 kept
-    (λ here. let stands : HasWord c.args.text.now c.args.place c.as_bytes.result.now
+    (λ here. let holds : HasWord c.args.text.now c.args.place c.as_bytes.result.now
     = subst (λ (word : List ℕ). HasWord c.args.text.now c.args.place word) (sym c.as_bytes.ensures.value) here in
-    cc (c.has_word.ensures.1 stands, c.if-not-has_word.true))
+    cc (c.has_word.ensures.1 holds, c.if-not-has_word.true))
 
 pub returns : goal.returns
 returns c = λ table kept.

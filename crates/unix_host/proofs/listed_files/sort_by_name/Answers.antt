@@ -3,7 +3,7 @@ use Rattle.std.proofs.lemmas.List.MinMax.{ranks_by}
 use Rattle.std.proofs.lemmas.List.Sorted.{answers_always}
 use Rattle.std.specs.Cmp.Lexicographic.{nat_list_cmp_total}
 use Rattle.std.specs.Ordering.{is_lt}
-use Rattle.host_calls.specs.Folder.{name_cmp}
+use Rattle.host_calls.specs.Directory.{name_cmp}
 use Rattle.unix_host.specs.declared.listed_files.Prefixed.{Prefixed}
 use Rattle.unix_host.proofs.PrefixLemmas.{passes_not}
 use Rattle.unix_host.proofs.listed_files.sort_by_name.Goals as goal

@@ -29,4 +29,4 @@ returns-clause-files g c = λ tells. sync_files c.args.names.now c.loop-name.nam
 pub returns-clause-cleared : goal.returns-clause-cleared
 returns-clause-cleared g c = λ tells some.
     let ended : c.loop-name.name-index ≡ length c.args.names.now = omega arith in
-    cleared c.args.names.now c.loop-name.name-index (g.H.Host.world c.args.host.now).now.folder _ _ c.sync_names.result ended (c.loop-name.invariant.removed tells) (c.sync_names.ensures.files tells)
+    cleared c.args.names.now c.loop-name.name-index (g.H.Host.world c.args.host.now).now.directory _ _ c.sync_names.result ended (c.loop-name.invariant.removed tells) (c.sync_names.ensures.files tells)

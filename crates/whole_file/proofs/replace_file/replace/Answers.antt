@@ -13,5 +13,5 @@ returns-clause-files g c = λ known.
 
 pub returns-clause-placed : goal.returns-clause-placed
 returns-clause-placed g c = λ known.
-    replaced c.place.result c.args.temp.now c.args.target.now c.args.bytes.now (g.H.Host.world c.args.host.now).now.folder (g.H.Host.world c.clear_left.new.host).now.folder
-    (g.H.Host.world c.place.new.host).now.folder (c.in_ok-clear_left.ensures.gone known) (c.place.ensures.placed known)
+    replaced c.place.result c.args.temp.now c.args.target.now c.args.bytes.now (g.H.Host.world c.args.host.now).now.directory (g.H.Host.world c.clear_left.new.host).now.directory
+    (g.H.Host.world c.place.new.host).now.directory (c.in_ok-clear_left.ensures.gone known) (c.place.ensures.placed known)

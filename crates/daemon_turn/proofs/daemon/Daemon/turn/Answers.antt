@@ -1,10 +1,10 @@
 use Rattle.std.proofs.Common.{◌∙◌, refl, rules, subst, sym}
 use Rattle.daemon_turn.specs.Daemons.{DaemonState}
 use Rattle.daemon_turn.specs.Kids.{AreChildren}
-use Rattle.daemon_turn.specs.Leaving.{TurnsTo}
+use Rattle.daemon_turn.specs.TurnOutcome.{TurnsTo}
 use Rattle.daemon_turn.specs.declared.turn_input.TurnInput.{TurnInput}
-use Rattle.host_session.specs.declared.turn_end.TurnEnd.{TurnEnd}
-use Rattle.host_session.specs.Ends.{end_of_session}
+use Rattle.host_calls.specs.declared.turn_end.TurnEnd.{TurnEnd}
+use Rattle.host_calls.specs.SessionEnds.{end_of_session}
 use Rattle.daemon_turn.proofs.DaemonLemmas.{turn_of_session}
 use Rattle.daemon_turn.proofs.daemon.Daemon.turn.Goals as goal
 

@@ -1,7 +1,7 @@
 use Rattle.std.proofs.Common.{◌≡◌, List, arith, length, refl, rules, subst, sym}
 use Rattle.std.specs.Prelude.{Ok}
 use Rattle.daemon_turn.specs.declared.kid.Kid.{Kid}
-use Rattle.daemon_turn.specs.inside.Asking.{AsksAll}
+use Rattle.daemon_turn.specs.inside.AskedChildren.{AsksAll}
 use Rattle.daemon_turn.specs.Kids.{AreChildren}
 use Rattle.daemon_turn.proofs.AskLemmas.{HasAsked, all_asked, child_held, none_asked, one_asked, some_asked}
 use Rattle.daemon_turn.proofs.turning.Turning.ask_all.Goals as goal

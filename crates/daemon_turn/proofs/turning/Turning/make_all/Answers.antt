@@ -1,7 +1,7 @@
 use Rattle.std.proofs.Common.{◌+◌, List, ap, arith, rules, subst, sym, take, refl, ◌∙◌}
 use Rattle.std.proofs.lemmas.Slice.{pushed}
 use Rattle.spool_model.specs.declared.step.Step.{Step}
-use Rattle.spool_store.specs.Making.{MakesSteps, MayMakeSteps}
+use Rattle.spool_store.specs.StepSequences.{MakesSteps, MayMakeSteps}
 use Rattle.daemon_turn.proofs.MakeLemmas.{made_all, nothing_made, written_part}
 use Rattle.daemon_turn.proofs.turning.Turning.make_all.Goals as goal
 

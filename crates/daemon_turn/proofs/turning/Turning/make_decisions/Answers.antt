@@ -1,7 +1,7 @@
 use Rattle.std.proofs.Common.{◌∙◌, List, ap, subst, sym}
 use Rattle.std.specs.Prelude.{Ok, Err}
 use Rattle.daemon_turn.specs.declared.kid.Kid.{Kid}
-use Rattle.daemon_turn.specs.inside.Asking.{AsksAll}
+use Rattle.daemon_turn.specs.inside.AskedChildren.{AsksAll}
 use Rattle.daemon_turn.specs.Kids.{AreChildren}
 use Rattle.daemon_turn.proofs.DecideLemmas.{children_stay, ended_all, given_up_table, may_end_all, may_give_up, now_current, stopped_asking, stopped_giving_up}
 use Rattle.daemon_turn.proofs.turning.Turning.make_decisions.Goals as goal

@@ -3,10 +3,10 @@ use Rattle.std.specs.Prelude.{Ok, Err}
 use Rattle.std.proofs.lemmas.Int.{to_z-of_z}
 use Rattle.daemon_turn.specs.declared.kid.Kid.{Kid}
 use Rattle.spool_model.specs.declared.turn_step.TurnStep.{TurnStep}
-use Rattle.daemon_turn.specs.inside.Making.{MakesAll}
+use Rattle.daemon_turn.specs.inside.MadeSteps.{MakesAll}
 use Rattle.daemon_turn.specs.inside.Turned.{MakesTurn}
 use Rattle.daemon_turn.proofs.MakeLemmas.{may_forget_all, nothing_made}
-use Rattle.daemon_turn.specs.inside.Waiting.{ArePendingNumbers}
+use Rattle.daemon_turn.specs.inside.PendingNumbers.{ArePendingNumbers}
 use Rattle.daemon_turn.proofs.TurnedLemmas.{launches_as, may_go_on, order_waiting, stopped_deciding, stopped_starting, turned}
 use Rattle.daemon_turn.proofs.turning.Turning.make_turn.Goals as goal
 

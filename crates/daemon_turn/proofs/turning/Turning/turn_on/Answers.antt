@@ -1,7 +1,7 @@
 use Rattle.std.proofs.Common.{subst, sym}
 use Rattle.std.specs.Prelude.{Ok}
 use Rattle.daemon_turn.specs.Kids.{AreKidsByNumber}
-use Rattle.daemon_turn.specs.Starting.{turn_of}
+use Rattle.daemon_turn.specs.StartOrder.{turn_of}
 use Rattle.daemon_turn.proofs.PlanLemmas.{clock_same}
 use Rattle.daemon_turn.proofs.WaitLemmas.{order_waits}
 use Rattle.daemon_turn.proofs.WorkLemmas.{asked_itself, done_same, fault_same, ordered_kids, unplanned}

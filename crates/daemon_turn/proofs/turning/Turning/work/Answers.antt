@@ -1,4 +1,4 @@
-use Rattle.daemon_turn.specs.Starting.{turn_of}
+use Rattle.daemon_turn.specs.StartOrder.{turn_of}
 use Rattle.daemon_turn.proofs.WorkLemmas.{may_decide, unrecovered, works_by}
 use Rattle.daemon_turn.proofs.turning.Turning.work.Goals as goal
 

@@ -1,8 +1,8 @@
 use Rattle.std.proofs.Common.{◌∙◌, List, ℕ, refl, rules, subst, sym}
 use Rattle.daemon_turn.specs.Kids.{AreChildren}
-use Rattle.host_session.specs.declared.turn_end.TurnEnd.{TurnEnd}
-use Rattle.host_session.specs.Ends.{end_of_session}
-use Rattle.mail_session.specs.Leaving.{PostsTo}
+use Rattle.host_calls.specs.declared.turn_end.TurnEnd.{TurnEnd}
+use Rattle.host_calls.specs.SessionEnds.{end_of_session}
+use Rattle.mail_session.specs.SessionOutcome.{PostsTo}
 use Rattle.mail_session.specs.PostState.{PostState}
 use Rattle.mail_session.proofs.MailerLemmas.{distinct_of_session, post_of_session, reads_of_session}
 use Rattle.mail_session.proofs.mailer.Post.session.Goals as goal
@@ -23,7 +23,7 @@ pub returns : goal.returns
 returns g c =
     let post : PostState = record { program = c.as_slice-program.result.now; kids = c.self.inside.kids.items } in
     let now : PostState = record { program = c.as_slice-program.result.now; kids = c.in_session-worked.new.work.2.now.items } in
-    let stands : PostsTo g.H.Host.tells g.H.Host.alone
+    let holds : PostsTo g.H.Host.tells g.H.Host.alone
     (record { session = g.H.Host.session c.args.host.now; world = g.H.Host.world c.args.host.now; post = post })
     (record { session = g.H.Host.session c.in_session-worked.new.host; world = g.H.Host.world c.in_session-worked.new.host; post = now })
     c.mail_report.result.end c.mail_report.result.sent =
@@ -61,4 +61,4 @@ returns g c =
       post =
           record { program = program; kids = c.in_session-worked.new.work.2.now.items };
     })
-    c.mail_report.result.end c.mail_report.result.sent) c.as_slice-program.ensures.value stands)
+    c.mail_report.result.end c.mail_report.result.sent) c.as_slice-program.ensures.value holds)

@@ -6,11 +6,11 @@ use Rattle.memory_host.proofs.host.MemoryHostHost.settle.Goals as goal
 
 pub returns : goal.returns
 returns c =
-    let folder = (state_of c.args.self.now.past).folder in
+    let directory = (state_of c.args.self.now.past).directory in
     let works : ¬ (c.next_part-part.result ≡ Some Nothing) = search rules in
     change_done _ _ _ c.args.self.now c.finish.new.self _ c.next_part-part.result c.finish.result c.in_ok-settle.ensures c.finish.ensures.world refl
     refl
-    (part_settled folder)
+    (part_settled directory)
     c.finish.ensures.inside
     c.finish.ensures.counted
     c.finish.ensures.answer

@@ -1,14 +1,14 @@
 use Rattle.std.proofs.Common.{sym, ap, subst, ◌∙◌}
 use Rattle.memory_host.specs.Past.{CallLog}
 use Rattle.memory_host.specs.inside.Story.{state_of}
-use Rattle.host_calls.specs.Folder.{IsHeldAt, names_of}
+use Rattle.host_calls.specs.Directory.{IsHeldAt, names_of}
 use Rattle.memory_host.proofs.PastLemmas.{number_known, script_more, known_handed, known_next}
 use Rattle.memory_host.proofs.past.Past.hand_over.Goals as goal
 
 pub bytes-requires : goal.bytes-requires
 bytes-requires c =
     number_known (state_of _) c.self.inside.names c.self.inside.bodies c.self.inside.handed.items c.self.invariant c.args.name.now c.number-body.result
-    (subst (λ story. IsHeldAt (names_of (state_of story).folder) c.args.name.now c.number-body.result) (sym c.self.view_is) c.number-body.ensures.held)
+    (subst (λ story. IsHeldAt (names_of (state_of story).directory) c.args.name.now c.number-body.result) (sym c.self.view_is) c.number-body.ensures.held)
 
 pub invariant_of-self-2 : goal.invariant_of-self-2
 invariant_of-self-2 c =

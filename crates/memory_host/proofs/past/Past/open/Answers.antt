@@ -4,10 +4,10 @@ use Rattle.std.specs.FinMap.{from_entries}
 use Rattle.std.specs.Map.Iter.{deref_pair}
 use Rattle.std.proofs.lemmas.Map.Iter.{iter_end}
 use Rattle.std.proofs.lemmas.List.{map-append}
-use Rattle.memory_host.specs.Past.{nothing, with_files, with_folder, with_new_file}
+use Rattle.memory_host.specs.Past.{nothing, with_files, with_directory, with_new_file}
 use Rattle.memory_host.specs.inside.Story.{Opens}
 use Rattle.memory_host.specs.inside.Known.{IsStateKept}
-use Rattle.host_calls.specs.Folder.{settled}
+use Rattle.host_calls.specs.Directory.{settled}
 use Rattle.memory_host.proofs.OpenLemmas.{opens, known_nothing, known_opened, with_files-push}
 use Rattle.memory_host.proofs.PastLemmas.{known_settled}
 use Rattle.memory_host.proofs.past.Past.open.Goals as goal
@@ -29,10 +29,10 @@ invariant_of-result c =
     let all : map deref_pair c.loop-name.yielded ≡ c.files.inside.inner.entries = search (rules, iter_end) in
     let files : List (List ℕ × List ℕ) = c.files.inside.inner.entries in
     known_opened files c.new.result.items c.sync.new.self c.settle.new.self c.new-2.result.items c.new.ensures.items
-    (subst (IsStateKept (with_folder (settled (with_files files nothing).folder) (with_files files nothing)) c.sync.new.self c.settle.new.self) (sym c.new-2.ensures.items)
+    (subst (IsStateKept (with_directory (settled (with_files files nothing).directory) (with_files files nothing)) c.sync.new.self c.settle.new.self) (sym c.new-2.ensures.items)
     (known_settled (with_files files nothing) c.loop-name.names c.sync.new.self c.loop-name.bodies c.settle.new.self []
     (subst (λ l. IsStateKept (with_files l nothing) c.loop-name.names c.loop-name.bodies []) all c.loop-name.invariant)
-    c.sync.ensures.now c.sync.ensures.certain c.sync.ensures.pending c.settle.ensures.list))
+    c.sync.ensures.now c.sync.ensures.durable c.sync.ensures.pending c.settle.ensures.list))
 
 pub returns : goal.returns
 returns c =

@@ -5,7 +5,7 @@ use Rattle.spool_model.specs.Steps.{IsLegal}
 use Rattle.start_journal.specs.declared.mark.Mark.{Mark}
 use Rattle.start_journal.specs.Marks.{IsLegalAfter}
 use Rattle.step_runs.specs.Current.{Kept}
-use Rattle.spool_shows.specs.Deciding.{decision, decision_mark}
+use Rattle.spool_shows.specs.FateSteps.{decision, decision_mark}
 use Rattle.spool_store.specs.Listed.{IsLive}
 use Rattle.spool_store.specs.Scripts.{IsLiveFileName}
 use Rattle.spool_store.proofs.StepCalls.{IsDecidingStep, current_call, decision_of_step, failed_step, has_its_mark, legal_inside, of_some, stored_step}
@@ -13,17 +13,17 @@ use Rattle.spool_store.proofs.StoredSteps.{DecidesBy, decides_by, decision_legal
 use Rattle.spool_store.proofs.store.Store.decide.Goals as goal
 
 -- the decision that the store makes, its mark, and the file of its job
-decides_so : (inside surveyed : Kept) (number : ℕ) (fate : Fate) (mark : Mark) (found : Option (List ℕ)) (name : List ℕ) → inside ≡ surveyed → IsLegal surveyed.table (decision number fate) → mark ≡ decision_mark number fate → found ≡ Some name → IfSome found (IsLiveFileName surveyed.table surveyed.old_form number) → IsDecidingStep inside surveyed (decision number fate) mark name
-decides_so inside surveyed number fate mark found name view legal mark_is is file =
+decides_so : (inside scanned : Kept) (number : ℕ) (fate : Fate) (mark : Mark) (found : Option (List ℕ)) (name : List ℕ) → inside ≡ scanned → IsLegal scanned.table (decision number fate) → mark ≡ decision_mark number fate → found ≡ Some name → IfSome found (IsLiveFileName scanned.table scanned.old_form number) → IsDecidingStep inside scanned (decision number fate) mark name
+decides_so inside scanned number fate mark found name view legal mark_is is file =
     let by : DecidesBy inside.table number fate (decision number fate) (decision_mark number fate) = decides_by inside.table number fate in
-    subst (λ added. IsDecidingStep inside surveyed (decision number fate) added name) (sym mark_is) (record {
+    subst (λ added. IsDecidingStep inside scanned (decision number fate) added name) (sym mark_is) (record {
       step_of = record { view = view; legal = legal; adds = by.adds; without_scripts = by.without_scripts };
       number = number;
       decided = by.decided;
-      file = of_some (IsLiveFileName surveyed.table surveyed.old_form number) found name is file;
+      file = of_some (IsLiveFileName scanned.table scanned.old_form number) found name is file;
     })
 
--- one that is there where a live job is
+-- one that exists where a live job is
 is_there : {X : Type 0} (table : JobTable) (number : ℕ) (fate : Fate) (found : Option X) → IfNone found (IsLive table number → ⊥) → IsLegal table (decision number fate) → IsSome found
 is_there table number fate None none legal = absurd (none ((decides_by table number fate).lives legal))
 is_there table number fate (Some value) none legal = refl

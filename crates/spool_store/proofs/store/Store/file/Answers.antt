@@ -15,8 +15,8 @@ returns-clause-found c =
     (ap not (c.contains.ensures.value ∙ ap (list_any (λ other. other == c.args.number)) c.deref.ensures.value)) c.name.ensures))
 
 pub returns-clause-holds : goal.returns-clause-holds
-returns-clause-holds c = λ folder table current.
-    file_holds c.args.self.now folder table c.args.number c.name.result current (returns-clause-found c)
+returns-clause-holds c = λ directory table current.
+    file_holds c.args.self.now directory table c.args.number c.name.result current (returns-clause-found c)
 
 pub invariant_of-job : goal.invariant_of-job
 invariant_of-job c = record {

@@ -8,8 +8,8 @@ use Rattle.spool_store.proofs.StepCalls.{IsStepOf, failed_step, has_its_mark, ma
 use Rattle.spool_store.proofs.store.Store.forget.Goals as goal
 
 -- the step that the store makes, and its mark
-forgets : (inside surveyed : Kept) (number : ℕ) → inside ≡ surveyed → IsLegal surveyed.table (Forget number) → IsStepOf inside surveyed (Forget number) (Forgotten number)
-forgets inside surveyed number view legal = record { view = view; legal = legal; adds = refl; without_scripts = refl }
+forgets : (inside scanned : Kept) (number : ℕ) → inside ≡ scanned → IsLegal scanned.table (Forget number) → IsStepOf inside scanned (Forget number) (Forgotten number)
+forgets inside scanned number view legal = record { view = view; legal = legal; adds = refl; without_scripts = refl }
 
 pub add_mark-requires-clause-current : goal.add_mark-requires-clause-current
 add_mark-requires-clause-current g c = λ tells.

@@ -7,11 +7,11 @@ pub returns-in_err-settle-clause-files : goal.returns-in_err-settle-clause-files
 returns-in_err-settle-clause-files g c = λ tells. settling _ _ _ (c.settle.ensures.files tells)
 
 pub returns-in_err-jobs-clause-files : goal.returns-in_err-jobs-clause-files
-returns-in_err-jobs-clause-files g c = λ tells. only_settled _ _ _ _ (c.settle.ensures.files tells) (c.scan_folder.ensures.looks tells)
+returns-in_err-jobs-clause-files g c = λ tells. only_settled _ _ _ _ (c.settle.ensures.files tells) (c.scan_directory.ensures.looks tells)
 
 pub returns-in_err-jobs-clause-recovered : goal.returns-in_err-jobs-clause-recovered
 returns-in_err-jobs-clause-recovered g c = λ tells.
-    settled_damage _ _ _ _ c.in_err-jobs.field-0.0 c.from_residual-in_err-jobs.result (c.in_ok-settle.ensures.files tells) (c.scan_folder.ensures.looks tells) c.from_residual-in_err-jobs.ensures.1
+    settled_damage _ _ _ _ c.in_err-jobs.field-0.0 c.from_residual-in_err-jobs.result (c.in_ok-settle.ensures.files tells) (c.scan_directory.ensures.looks tells) c.from_residual-in_err-jobs.ensures.1
     c.in_err-jobs.ensures.of_reading (c.in_err-jobs.ensures.damaged tells)
 
 pub clear-requires-clause-held : goal.clear-requires-clause-held
@@ -38,7 +38,7 @@ returns-clause-recovered g c = λ tells.
 
 pub returns-in_err-jobs-clause-untouched : goal.returns-in_err-jobs-clause-untouched
 returns-in_err-jobs-clause-untouched g c = λ tells.
-    settled_untouched _ _ _ _ c.from_residual-in_err-jobs.result (c.in_ok-settle.ensures.files tells) (c.scan_folder.ensures.looks tells)
+    settled_untouched _ _ _ _ c.from_residual-in_err-jobs.result (c.in_ok-settle.ensures.files tells) (c.scan_directory.ensures.looks tells)
 
 pub returns-in_err-settle-clause-recovered : goal.returns-in_err-settle-clause-recovered
 returns-in_err-settle-clause-recovered g c = λ tells. unsettled _ _ _ c.in_err-settle.field-0.0 c.from_residual.result (c.settle.ensures.files tells) c.from_residual.ensures.1

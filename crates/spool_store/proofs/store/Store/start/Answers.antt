@@ -21,8 +21,8 @@ same_queue job other state since same =
     ap (λ (of : Job). of.queue) (sym jobs)
 
 -- the step that the store makes, and its mark
-starts : (inside surveyed : Kept) (number : ℕ) (second written : ℤ) (row : Row) → inside ≡ surveyed → IsLegal surveyed.table (Start number second) → entry_at inside.table number ≡ Some (row_entry row).1 → written ≡ second → IsStepOf inside surveyed (Start number second) (Started number row.queue written)
-starts inside surveyed number second written row view legal held same =
+starts : (inside scanned : Kept) (number : ℕ) (second written : ℤ) (row : Row) → inside ≡ scanned → IsLegal scanned.table (Start number second) → entry_at inside.table number ≡ Some (row_entry row).1 → written ≡ second → IsStepOf inside scanned (Start number second) (Started number row.queue written)
+starts inside scanned number second written row view legal held same =
     let pending : IsLegal inside.table (Start number second) = subst (λ (kept : Kept). IsLegal kept.table (Start number second)) (sym view) legal in
     let queue : row.queue ≡ pending.0.queue = same_queue pending.0 (row_job row) Pending row.state (sym pending.1 ∙ held) in
     record {

@@ -1,8 +1,8 @@
 use Rattle.std.proofs.Common.{subst, sym}
-use Rattle.host_calls.specs.Folder.{Folder}
+use Rattle.host_calls.specs.Directory.{Directory}
 use Rattle.spool_model.specs.declared.job.Job.{Job}
 use Rattle.spool_store.specs.Stored.{IsStored}
-use Rattle.spool_store.specs.Submitting.{job_of_script, with_job}
+use Rattle.spool_store.specs.Submission.{job_of_script, with_job}
 use Rattle.spool_model.specs.Steps.{submission}
 use Rattle.spool_store.proofs.SubmitAnswers.{call_done, call_failed, header_found, is_next, submitted_kept, submitted_table}
 use Rattle.spool_store.proofs.SubmitStored.{submitted_stored}
@@ -13,20 +13,20 @@ unwrap-user-requires g c = header_found c.args.script.now c.header.result c.head
 
 pub file_job-requires-clause-current : goal.file_job-requires-clause-current
 file_job-requires-clause-current g c = λ tells.
-    let folder : Folder = (g.H.Host.world c.args.host.now).now.folder in
+    let directory : Directory = (g.H.Host.world c.args.host.now).now.directory in
     let current = c.requires.current tells in (
       c.args.self,
       current.0,
-      is_next c.args.self c.self.inside.jobs c.self.inside.journal c.self.inside.old_form.items c.self.view_is c.self.invariant folder current.0 c.in_ok-number.number c.in_ok-number.ensures.number current.1,
+      is_next c.args.self c.self.inside.jobs c.self.inside.journal c.self.inside.old_form.items c.self.view_is c.self.invariant directory current.0 c.in_ok-number.number c.in_ok-number.ensures.number current.1,
     )
 
 pub returns-in_err-file_job-clause-files : goal.returns-in_err-file_job-clause-files
 returns-in_err-file_job-clause-files g c = λ tells table current.
-    let folder : Folder = (g.H.Host.world c.args.host.now).now.folder in
+    let directory : Directory = (g.H.Host.world c.args.host.now).now.directory in
     let job : Job = job_of_script c.args.queue c.args.minute c.args.script.now in
     call_failed table (submission table job) (g.H.Host.world c.args.host.now) (g.H.Host.world c.file_job.new.host) c.in_err-file_job.field-0.0 c.from_residual-in_err-file_job.result
     (c.in_err-file_job.ensures.files tells c.args.self table
-    (is_next c.args.self c.self.inside.jobs c.self.inside.journal c.self.inside.old_form.items c.self.view_is c.self.invariant folder table c.in_ok-number.number c.in_ok-number.ensures.number current))
+    (is_next c.args.self c.self.inside.jobs c.self.inside.journal c.self.inside.old_form.items c.self.view_is c.self.invariant directory table c.in_ok-number.number c.in_ok-number.ensures.number current))
     c.from_residual-in_err-file_job.ensures.0
 
 pub returns-clause-kept : goal.returns-clause-kept
@@ -43,9 +43,9 @@ invariant_of-self g c =
 
 pub returns-clause-files : goal.returns-clause-files
 returns-clause-files g c = λ tells table current.
-    let folder : Folder = (g.H.Host.world c.args.host.now).now.folder in
+    let directory : Directory = (g.H.Host.world c.args.host.now).now.directory in
     let job : Job = job_of_script c.args.queue c.args.minute c.args.script.now in
     call_done table (submission table job) (g.H.Host.world c.args.host.now) (g.H.Host.world c.file_job.new.host) (with_job c.args.self job) _
     (submitted_kept c.args.self c.self.inside.jobs c.self.inside.journal c.self.inside.old_form.items c.self.view_is c.accept.new.self job (returns-clause-kept g c))
     (c.in_ok-file_job.ensures.files tells c.args.self table
-    (is_next c.args.self c.self.inside.jobs c.self.inside.journal c.self.inside.old_form.items c.self.view_is c.self.invariant folder table c.in_ok-number.number c.in_ok-number.ensures.number current))
+    (is_next c.args.self c.self.inside.jobs c.self.inside.journal c.self.inside.old_form.items c.self.view_is c.self.invariant directory table c.in_ok-number.number c.in_ok-number.ensures.number current))

@@ -1,4 +1,4 @@
-use Rattle.start_journal.specs.Changing.{compacted}
+use Rattle.start_journal.specs.JournalChange.{compacted}
 use Rattle.start_journal.proofs.ChangeLemmas.{changing}
 use Rattle.start_journal.proofs.journal.Journal.compact.Goals as goal
 

@@ -1,6 +1,6 @@
 use Rattle.std.proofs.Common.{Some}
 use Rattle.host_calls.specs.World.{World}
-use Rattle.start_journal.specs.Changing.{GivesReadJournal}
+use Rattle.start_journal.specs.JournalChange.{GivesReadJournal}
 use Rattle.start_journal.specs.Journals.{JournalRead}
 use Rattle.start_journal.proofs.ChangeLemmas.{made_gives, replaced, replacing}
 use Rattle.start_journal.proofs.journal.Journal.replace.Goals as goal
@@ -19,4 +19,4 @@ returns-clause-replaced g c = λ tells.
     made_gives c.in_ok-text.text.items c.as_slice-2.result.now c.as_slice.result.now inside c.args.self.now c.as_slice-2.ensures.value c.as_slice.ensures.value c.in_ok-text.ensures c.self.invariant c.self.view_is in
     let old : World = g.H.Host.world c.args.host.now in
     let new : World = g.H.Host.world c.place.new.host in
-    replaced c.temporary_name.result c.journal_name.result c.as_slice-2.result.now c.args.self.now old.now.folder new.now.folder c.place.result c.temporary_name.ensures c.journal_name.ensures gives (c.place.ensures.placed tells)
+    replaced c.temporary_name.result c.journal_name.result c.as_slice-2.result.now c.args.self.now old.now.directory new.now.directory c.place.result c.temporary_name.ensures c.journal_name.ensures gives (c.place.ensures.placed tells)

@@ -1,7 +1,7 @@
 use Rattle.std.proofs.Common.{◌≡◌, ◌∙◌, IsPermutation, ap, map, rules, subst, sym}
 use Rattle.std.specs.Prelude.{IsSortedByKey}
 use Rattle.std.specs.Ordering.{is_lt}
-use Rattle.host_calls.specs.Folder.{name_cmp}
+use Rattle.host_calls.specs.Directory.{name_cmp}
 use Rattle.unix_host.specs.declared.listed_files.Listed.{Listed}
 use Rattle.unix_host.specs.declared.listed_files.Prefixed.{Prefixed}
 use Rattle.unix_host.proofs.PrefixLemmas.{sorted_map}

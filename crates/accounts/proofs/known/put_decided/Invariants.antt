@@ -1,6 +1,0 @@
-use Rattle.std.proofs.Common.{map, take}
-use Rattle.accounts.specs.inside.Knowing.{ArePut, decided_known}
-use Rattle.accounts.proofs.known.put_decided.Given as goal
-
-abbrev pub invariant-loop-one : goal.invariant-loop-one
-invariant-loop-one l = ArePut (map decided_known (take l.one-index l.decided)) l.fn.jobs l.jobs

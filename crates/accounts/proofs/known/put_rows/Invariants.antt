@@ -1,6 +1,0 @@
-use Rattle.std.proofs.Common.{map, take}
-use Rattle.accounts.specs.inside.Knowing.{ArePut, row_known}
-use Rattle.accounts.proofs.known.put_rows.Given as goal
-
-abbrev pub invariant-loop-row : goal.invariant-loop-row
-invariant-loop-row l = ArePut (map row_known (take l.row-index l.rows)) l.fn.jobs l.jobs

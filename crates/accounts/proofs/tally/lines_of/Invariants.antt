@@ -1,6 +1,0 @@
-use Rattle.std.proofs.Common.{◌≡◌, ◌++◌, map}
-use Rattle.accounts.specs.inside.Tallying.{owner_line}
-use Rattle.accounts.proofs.tally.lines_of.Given as goal
-
-abbrev pub invariant-loop-user : goal.invariant-loop-user
-invariant-loop-user l = l.lines.items ++ map owner_line l.user-iterator ≡ map owner_line l.tally.entries

@@ -1,7 +1,0 @@
-use Rattle.std.proofs.Common.{rules}
-use Rattle.std.specs.Option.{option_copied}
-use Rattle.accounts.proofs.TallyLemmas.{raised_at}
-use Rattle.accounts.proofs.tally.raised.Goals as goal
-
-pub returns : goal.returns
-returns c = raised_at (option_copied c.args.counts) c.so_far-raised.result c.args.kind c.saturating_add.result c.requires (search rules) c.so_far-raised.ensures c.saturating_add.ensures

@@ -1,4 +1,0 @@
-pub mod Gathering
-pub mod Knowing
-pub mod Spelling
-pub mod Tallying

@@ -1,0 +1,24 @@
+use Rattle.std.proofs.Common.{ap, sym, ◌∙◌, map, string_bytes}
+use Rattle.clap.specs.Faults.{is_simple_and_free}
+use Rattle.clap.proofs.OnLiterals.{clap_on_literals}
+use Rattle.at_words.specs.Commands.{bare_app}
+use Rattle.at_words.proofs.AskLemmas.{asks_fails, asks_taken, no_words, with_name}
+use Rattle.at_mail.specs.TrimWords.{trim_rows_asked, trim_app, trim_asked}
+use Rattle.at_mail.proofs.trim_words.ask_for_a_trim.Goals as goal
+
+pub parsed-requires : goal.parsed-requires
+unfolding clap_on_literals bare_app trim_app
+parsed-requires c = ap is_simple_and_free c.in_ok-command.ensures
+
+pub returns-then-is_empty : goal.returns-then-is_empty
+returns-then-is_empty c = sym (ap trim_asked (no_words string_bytes c.args.words.now (sym c.is_empty.ensures ∙ c.if-is_empty.true)))
+
+pub returns-in_err-matches : goal.returns-in_err-matches
+returns-in_err-matches c =
+    with_name trim_app trim_rows_asked string_bytes c.args.words.now _ (sym c.is_empty.ensures ∙ c.if-is_empty.false)
+    (asks_fails trim_app trim_rows_asked (map string_bytes c.args.words.now) _ c.in_ok-command.ensures _ c.from_residual-in_err-matches.result c.in_err-matches.ensures c.from_residual-in_err-matches.ensures.1)
+
+pub returns : goal.returns
+returns c =
+    with_name trim_app trim_rows_asked string_bytes c.args.words.now c.is_trim_asked.result (sym c.is_empty.ensures ∙ c.if-is_empty.false)
+    (asks_taken trim_app trim_rows_asked (map string_bytes c.args.words.now) _ c.in_ok-command.ensures c.in_ok-matches.matches c.is_trim_asked.result c.in_ok-matches.ensures c.is_trim_asked.ensures)

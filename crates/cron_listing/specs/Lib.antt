@@ -1,4 +1,0 @@
-pub mod Listing
-pub mod Running
-pub mod Words
-pub mod inside

@@ -1,6 +1,0 @@
-use Rattle.std.proofs.Common.{take}
-use Rattle.cron_mark.specs.Mark.{BeginsMark}
-use Rattle.cron_mark.proofs.text.longest_start.Given as goal
-
-abbrev pub invariant-loop-place : goal.invariant-loop-place
-invariant-loop-place l = BeginsMark (take l.place l.bytes)

@@ -1,5 +1,0 @@
-use Rattle.cron_schedule.specs.inside.Dates.{AreIdleDates}
-use Rattle.cron_schedule.proofs.dates.is_idle_day.Given as goal
-
-abbrev pub invariant-loop-date : goal.invariant-loop-date
-invariant-loop-date l = AreIdleDates l.entry l.day l.date

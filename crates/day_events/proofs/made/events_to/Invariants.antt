@@ -1,7 +1,0 @@
-use Rattle.std.proofs.Common.{◌≡◌}
-use Rattle.day_events.specs.Made.{made_events}
-use Rattle.day_events.proofs.made.events_to.Given as goal
-
--- the events so far
-abbrev pub invariant-loop-number : goal.invariant-loop-number
-invariant-loop-number l = l.events ≡ made_events l.number

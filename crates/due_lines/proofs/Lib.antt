@@ -1,4 +1,0 @@
-pub mod CountedLemmas
-pub mod LineLemmas
-pub mod OrderLemmas
-pub mod RowLemmas

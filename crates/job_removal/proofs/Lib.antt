@@ -1,2 +1,0 @@
-pub mod LegalLemmas
-pub mod RemoveLemmas

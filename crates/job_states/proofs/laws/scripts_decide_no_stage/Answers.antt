@@ -1,5 +1,0 @@
-use Rattle.job_states.proofs.StageLemmas.{stage_of-without_scripts}
-use Rattle.job_states.proofs.laws.scripts_decide_no_stage.Goals as goal
-
-pub returns : goal.returns
-returns c = stage_of-without_scripts

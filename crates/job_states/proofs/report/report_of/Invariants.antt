@@ -1,6 +1,0 @@
-use Rattle.std.proofs.Common.{take}
-use Rattle.job_states.specs.Reports.{IsReport}
-use Rattle.job_states.proofs.report.report_of.Given as goal
-
-abbrev pub invariant-loop-number : goal.invariant-loop-number
-invariant-loop-number l = IsReport l.form l.zone l.store.table (take l.number-index l.numbers) l.text.items

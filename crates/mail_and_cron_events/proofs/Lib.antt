@@ -1,9 +1,0 @@
-pub mod OnlyJobs
-pub mod StartedJobs
-pub mod LaterLemmas
-pub mod NoticeLemmas
-pub mod EffectRestLemmas
-pub mod NamesApart
-pub mod RestLemmas
-pub mod MailLemmas
-pub mod CronLemmas

@@ -1,4 +1,0 @@
-pub mod LaterEffects
-pub mod EffectLaws
-pub mod SessionsPass
-pub mod Laws

@@ -1,9 +1,0 @@
-pub mod EventLemmas
-pub mod KeepingLemmas
-pub mod KeptLemmas
-pub mod LeavingLemmas
-pub mod NamedLemmas
-pub mod ProgramLemmas
-pub mod RevivingLemmas
-pub mod StayingLemmas
-pub mod WritingLemmas

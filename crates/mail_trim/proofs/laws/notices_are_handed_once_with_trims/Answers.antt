@@ -1,8 +1,0 @@
-use Rattle.mail_trim.proofs.EventLemmas.{notices_are_handed_once_with_trims, trims_are_events}
-use Rattle.mail_trim.proofs.laws.notices_are_handed_once_with_trims.Goals as goal
-
-pub returns-clause-once : goal.returns-clause-once
-returns-clause-once c = notices_are_handed_once_with_trims
-
-pub returns-clause-events : goal.returns-clause-events
-returns-clause-events c = trims_are_events

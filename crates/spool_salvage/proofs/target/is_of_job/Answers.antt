@@ -1,6 +1,0 @@
-use Rattle.std.proofs.Common.{◌∙◌}
-use Rattle.spool_salvage.proofs.BareFolders.{read_as_job}
-use Rattle.spool_salvage.proofs.target.is_of_job.Goals as goal
-
-pub returns : goal.returns
-returns c = c.is_some.ensures ∙ read_as_job c.args.name.now c.read.result c.read.ensures.spelled c.read.ensures.found

@@ -1,5 +1,0 @@
-use Rattle.spool_shows.proofs.ByNameLemmas.{folders_are_shown_by_name as law}
-use Rattle.spool_shows.proofs.laws.folders_are_shown_by_name.Goals as goal
-
-pub returns : goal.returns
-returns c = law

@@ -1,8 +1,0 @@
-use Rattle.spool_shows.proofs.FirstDamages.{folders_show_their_first_damage, undamaged_folders_show_tables}
-use Rattle.spool_shows.proofs.laws.folders_show_their_first_damage.Goals as goal
-
-pub returns-clause-damage : goal.returns-clause-damage
-returns-clause-damage c = folders_show_their_first_damage
-
-pub returns-clause-table : goal.returns-clause-table
-returns-clause-table c = undamaged_folders_show_tables

@@ -1,5 +1,0 @@
-use Rattle.spool_shows.proofs.ShownHeaders.{folders_without_sequence_show_no_entry as law}
-use Rattle.spool_shows.proofs.laws.folders_without_sequence_show_no_entry.Goals as goal
-
-pub returns : goal.returns
-returns c = law
