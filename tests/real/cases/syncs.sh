@@ -168,7 +168,7 @@ steps_of_a_first_spool() {
     # (each name is on the disk before anything is put below it)
     sed -n '1,/at.deny/p' calls | sed 's|HERE/.local/state/coefhird|HERE/STATE|' >first; mv first calls
     made 'sync HERE/.local' 'sync HERE' 'sync HERE/.local/state' 'sync HERE/.local' 'sync HERE/STATE' 'sync HERE/.local/state' \
-      'sync HERE/STATE/jobs' 'sync HERE/STATE' 'sync HERE/STATE/jobs/at.deny'
+      'sync HERE/STATE/jobs' 'sync HERE/STATE' 'sync HERE/STATE/jobs/.ATD' 'sync HERE/STATE/jobs' 'sync HERE/STATE/jobs/at.deny'
   done
 }
 case_syncs_of_a_first_spool() { doored; apart steps_of_a_first_spool; }
