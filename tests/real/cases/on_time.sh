@@ -23,11 +23,12 @@ serves() {
   daemon=$!
   trap 'kill "$daemon" 2>/dev/null' EXIT
   awaits_atd
-  # (of the locks that are traced the first is the one that it keeps, and the second that of its first turn)
+  # (of the locks beside the spool that are traced the first is that under which its own is made, and the second that of its
+  # first turn)
   if [ $# -gt 0 ]; then awaits_turns 2; fi
   sleep 1.5
 }
-counted_turns() { grep -cs 'flock(.*LOCK_EX.* = 0' calls; }
+counted_turns() { grep -csE 'flock\([0-9]+<[^>]*\.lock>, LOCK_EX.* = 0' calls; }
 awaits_turns() { for _ in $(seq 400); do [ "$(counted_turns)" -lt "$1" ] || return 0; sleep 0.05; done; fail "there are $(counted_turns) turns, not $1"; }
 
 # Waits twenty seconds at most, which no rest of a minute is, for what a job writes as it starts, in milliseconds since 1970.
@@ -78,7 +79,7 @@ case_a_notice_at_once() {
 # However many submissions there are, atd makes one turn a second, and one more where a minute ends.
 case_a_flood_of_submissions() {
   needs_strace; needs_atd; doored; opened
-  serves strace -D -f -e trace=flock -o "$PWD/calls"
+  serves strace -D -f -y -e trace=flock -o "$PWD/calls"
   from=$(counted_turns) begun=$(date +%s%3N)
   for _ in $(seq 40); do hand true at -t 203001010000; done
   awaits_turns $((from + 1)); sleep 1.5
@@ -91,7 +92,7 @@ case_long_a_rest_that_no_submission_ends() {
   needs_strace; needs_atd; doored; opened
   extra=(ATSPOOL="$spool" TZ=UTC)
   hand true at -t 203001010000; took 1
-  serves strace -D -f -e trace=flock -o "$PWD/calls"
+  serves strace -D -f -y -e trace=flock -o "$PWD/calls"
   # (within one minute, which a busy machine may be too slow for)
   for _ in 1 2 3 4 5; do
     [ $(($(date +%s) % 60)) -lt 40 ] || sleep $((62 - $(date +%s) % 60))
@@ -108,7 +109,8 @@ case_long_a_rest_that_no_submission_ends() {
 }
 
 # Turns begin at the same second of each minute, whatever a turn takes: so a batch job starts in each, with 60 seconds from one
-# to the next. The clock is told, so that this takes no twenty minutes. With 61 seconds only every second turn starts one.
+# to the next. The clock is told, so that this takes no twenty minutes, in which no job ends: an end has a turn of its own. With
+# 61 seconds only every second turn starts one.
 case_a_batch_job_in_each_turn() {
   command -v cc >/dev/null || skip 'there is no cc'
   needs_atd; doored
@@ -116,7 +118,7 @@ case_a_batch_job_in_each_turn() {
   for row in 60:20 61:10; do
     opened "spool_${row%:*}"
     extra=(ATSPOOL="$spool" TZ=UTC)
-    for job in $(seq 20); do hand true batch; took "$job"; done
+    for job in $(seq 20); do hand 'exec sleep 60' batch; took "$job"; done
     extra+=(LD_PRELOAD="$PWD/clock.so")
     knock atd -l 999 -b "${row%:*}" --turns 20
     [ "$status" = 0 ] && [ ! -s err ] || fail "with ${row%:*} seconds atd ends with $status: $(cat err)"
