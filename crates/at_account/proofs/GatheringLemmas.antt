@@ -173,7 +173,7 @@ are_news before known jobs new_records ordered knows is = subst (AreNewsBy befor
   each : (number : ℕ) → filter (is_account_record_of number) (news_of_all before jobs.entries) ≡ news_of before number (known number)
   each number = filtered before jobs.entries number rise ∙ by_job number (job_at jobs number) refl
 
--- records of another number leave how a job stands
+-- records of another number leave the state of a job
 holds_after : (records new_records : List AccountRecord) (number other : ℕ) (record_state : Option RecordState) → (other == number) ≡ false → AreOf other new_records
     → IsRecordStateAt records number record_state → IsRecordStateAt (records ++ new_records) number record_state
 holds_after records [] number other record_state apart are holds = subst (λ r. IsRecordStateAt r number record_state) (sym (append-nil records)) holds
@@ -182,7 +182,7 @@ holds_after records (one ∷ later) number other record_state apart are holds =
     (holds_after (records ++ one ∷ []) later number other record_state apart are.1
     (holds_else records number record_state one (ap (λ n. n == number) are.0 ∙ apart) holds))
 
--- each job of the entries stands so
+-- each job of the entries is in this state
 abbrev AllStand : List AccountRecord → (ℕ → Option RecordState) → List Known → Type 0
 AllStand records record_states known = AllByRecursion (λ (one : Known). IsRecordStateAt records one.0 (record_states one.0)) known
 

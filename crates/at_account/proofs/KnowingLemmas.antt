@@ -70,7 +70,7 @@ put_more make list place one key value old now new inside here made put more num
     ∙ update_all_push at (job_at old) (job_at now) (map make (take place list)) (key, value) number (put number)
     ∙ ap (λ known. jobs_after (job_at old) known number) (sym all)
 
--- the element at a place is there, whatever stands for one beyond the end
+-- the element at a place is there, whatever serves as one beyond the end
 pub one_at : {X : Type 0} (list : List X) (place : ℕ) (other : X) → place < length list → get_or list place other ≡ get_or list place (get_or list place other)
 one_at [] place other inside = absurd (omega arith)
 one_at (first ∷ later) zero other inside = refl

@@ -1,4 +1,4 @@
--- What is new of a number, by how its job stands.
+-- What is new of a number, by the state of its job.
 use Rattle.std.proofs.Common.{◌≡◌, ◌∙◌, ℕ, List, ◌++◌, Option, Some, None, sym, ap, append_assoc}
 use Rattle.record_lines.proofs.SayingLemmas.{none_says}
 use Rattle.at_account.specs.declared.ledger.RecordState.{RecordState}

@@ -28,7 +28,7 @@ same_session session outside =
 same_silent : (at : SinkAt) → IsSilent at at
 same_silent at = record { content = refl; later = omega arith }
 
--- faults of words are told apart
+-- faults of words are distinguished
 same_fault : (asked : Result Bool WordsFault) (one other : WordsFault) → Err one ≡ asked → asked ≡ Err other → one ≡ other
 same_fault asked one other first second = let same : ◌≡◌ {A = Result Bool WordsFault} (Err one) (Err other) = first ∙ second in cc
 

@@ -6,7 +6,7 @@ use Rattle.tool_output.specs.PutLines.{joined_lines}
 use Rattle.at_account.specs.declared.line.AccountLine.{AccountLine}
 use Rattle.at_account.specs.TotalLines.{counts_text, line_text}
 
--- one more of a list is told
+-- one more of a list is reported
 told_more : {X : Type 0} (tell : List X → List ℕ) (one_text : X → List ℕ) (cons : (x : X) (xs : List X) → tell (x ∷ xs) ≡ one_text x ++ tell xs) (start text more : List ℕ) (list : List X) (place : ℕ) (other : X)
     → place < length list → text ++ tell (drop place list) ≡ start ++ tell list → more ≡ text ++ one_text (get_or list place other) → more ++ tell (drop (place + 1) list) ≡ start ++ tell list
 told_more tell one_text cons start text more list place other inside so_far added =

@@ -20,7 +20,7 @@ use Rattle.at_account.specs.declared.record.Closing.TheVariants.{Finished, Inter
 use Rattle.at_account.specs.declared.record.Owner.{Owner}
 use Rattle.at_account.specs.Records.{has_closing_record, is_seen, has_start_record}
 
--- what the records say of a job that stands so
+-- what the records say of a job in this state
 abbrev pub said_by : Option RecordState → Said
 said_by None = record { seen = false; started = false; closed = false }
 said_by (Some record_state) = record { seen = true; started = record_state.started; closed = record_state.closed }

@@ -16,7 +16,7 @@ abbrev pub AreRecordsByNumber : List AccountRecord → Type 0
 AreRecordsByNumber [] = Unit {0}
 AreRecordsByNumber (one ∷ later) = AllByRecursion (λ next. one.number ≤ next.number) later × AreRecordsByNumber later
 
--- Of each number the records are the new ones after these, by what is known of it, and they stand by number.
+-- Of each number the records are the new ones after these, by what is known of it, and they are ordered by number.
 pub record AreNewsBy (before : List AccountRecord) (known : ℕ → Option KnownJob) (new_records : List AccountRecord) : Type 0 where
   pub each : (number : ℕ) → filter (is_account_record_of number) new_records ≡ news_of before number (known number)
   pub by_number : AreRecordsByNumber new_records

@@ -11,7 +11,7 @@ use Rattle.at_account.specs.declared.record.AccountRecord.{AccountRecord}
 use Rattle.at_account.specs.declared.record.Owner.{Owner}
 use Rattle.at_account.specs.Records.{has_closing_record, has_record_of, is_owner, is_seen, is_seen_with, has_start_record}
 
--- the job was seen, with this owner and no other, and stands so
+-- the job was seen, with this owner and no other, and is in this state
 pub record IsRecordState (records : List AccountRecord) (number : ℕ) (record_state : RecordState) : Type 0 where
   pub seen : is_seen number records ≡ true
   pub owner : (other : Owner) → is_seen_with number other records ≡ is_owner other record_state.owner
@@ -31,7 +31,7 @@ AreRecordStates records record_states = (number : ℕ) → IsRecordStateAt recor
 abbrev pub IsLedgerOf : List AccountRecord → Ledger → Type 0
 IsLedgerOf records ledger = AreRecordStates records ledger.record_states
 
--- the event may come next in the life of a job that stands so
+-- the event may come next in the life of a job in this state
 abbrev pub event_may_follow : Option RecordState → AccountEvent → Bool
 event_may_follow None (Seen _) = true
 event_may_follow None Started = false

@@ -15,6 +15,6 @@ account_app = app_with (codes "ataccount") (long_flag_rule (codes "show") ∷ []
 abbrev pub show_asked : List Row → Result Bool WordsFault
 show_asked rows = Ok (is_set (codes "show") rows)
 
--- what the words request, the first of which stands for the program's name; without it they request nothing
+-- what the words request, the first of which is the program's name; without it they request nothing
 abbrev pub account_asked : List Text → Result Bool WordsFault
 account_asked words = named_asked account_app show_asked words

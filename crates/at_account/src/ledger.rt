@@ -64,7 +64,7 @@ impl Keeper<AccountRecord> for Ledger {
     }
 }
 
-// Whether the event may come next in the life of a job that stands so.
+// Whether the event may come next in the life of a job in this state.
 fn event_may_follow(record_state: Option<&RecordState>, event: &AccountEvent) -> bool
     ensures { result ≡ event_may_follow (option_copied record_state.entry) event.now }
 {

@@ -73,7 +73,7 @@ fn letter_of_event(event: &AccountEvent) -> u8
     }
 }
 
-// The event of a line with this letter, where this stands after the number.
+// The event of a line with this letter, where this comes after the number.
 fn event_in(letter: u8, rest: &[u8]) -> Option<AccountEvent>
     ensures some { IfSome result (IsEventText letter rest.now) }
     ensures none { IfNone result ((event : AccountEvent) → ¬ (IsEventText letter rest.now event)) }

@@ -8,7 +8,7 @@ use at_words::{WordsFault, bare_command, has_flag, parsed, with_long_flag};
 use clap::Command;
 use std::alloc::{AllocError, Global};
 
-// Whether the words request the lines to be shown, the first of which stands for the program's name.
+// Whether the words request the lines to be shown, the first of which is the program's name.
 pub(crate) fn asks_to_show(alloc: Global, words: &[String]) -> Result<bool, WordsFault>
     ensures { Answers (account_asked (map string_bytes words.now)) result }
 {

@@ -296,7 +296,7 @@ module _ (tells alone : Bool) (asked : ToolRequest) (caller : Caller) (finding :
       (far_by (table_verdict asked caller (Ok kept.table)) (table_on asked caller (Ok kept.table))).1 tt
       (any_memory (table_verdict asked caller (Ok kept.table))) (up_to_by (table_verdict asked caller (Ok kept.table))) works
 
--- A session stands as it was between entering and leaving, where nobody else changes the directory.
+-- A session is as it was between entering and leaving, where nobody else changes the directory.
 abbrev pub carries_within : (tells alone : Bool) (asked : ToolRequest) (caller : Caller) (finding : Finding) (before entered left after : World) (cause : Cause) →
     (tells ≡ true → alone ≡ true → entered ≡ before) → (tells ≡ true → alone ≡ true → after ≡ left) →
     Carries tells true asked caller finding entered left cause → Carries tells alone asked caller finding before after cause

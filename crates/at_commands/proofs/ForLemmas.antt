@@ -225,7 +225,7 @@ module _ (tells : Bool) (which : Filter) (caller : Caller) (user : List ℕ) (zo
         );
       }
 
--- what a session listed stands after it
+-- what a session listed holds after it
 pub lists_within : (tells alone : Bool) (asked : ToolRequest) (caller : Caller) (before entered left after : World) (result : Result (List ℕ) CommandError) →
     (tells ≡ true → alone ≡ true → entered ≡ before) → (tells ≡ true → alone ≡ true → after ≡ left) →
     ListsInSession tells true asked caller entered left result → ListsInSession tells alone asked caller before after result
@@ -294,7 +294,7 @@ module _ (tells output : Bool) (numbers : List ℕ) (caller : Caller) (user : Li
     }
     showing_stopped _ of_showing puts = absurd of_showing
 
--- what a session showed stands after it
+-- what a session showed holds after it
 pub shows_within : (tells alone output : Bool) (asked : ToolRequest) (caller : Caller) (before entered left after : World) (was is : SinkAt) (result : Result (Unit {0}) CommandError) →
     (tells ≡ true → alone ≡ true → entered ≡ before) → (tells ≡ true → alone ≡ true → after ≡ left) →
     ShowsInSession tells true output asked caller entered left was is result → ShowsInSession tells alone output asked caller before after was is result

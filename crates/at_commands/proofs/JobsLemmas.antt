@@ -55,7 +55,7 @@ live_by user table number None is none = cc
 live_by user table number (Some (Done fate)) is none = cc
 live_by user table number (Some (Live job state)) is none = (job, state, is)
 
--- numbers that are distinct stand apart
+-- numbers that are distinct are apart
 no_first : (b c : Bool) → (b || c) ≡ false → b ≡ false
 no_first true c is = cc
 no_first false c is = refl

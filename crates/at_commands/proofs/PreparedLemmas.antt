@@ -83,7 +83,7 @@ early_of InputFault is = tt
 early_of Memory is = tt
 early_of _ is = absurd is
 
--- what is after the lock stands after the clock
+-- what follows the lock follows the clock
 late_place : (place : ℕ) → nat_lt place 11 ≡ false → nat_lt 4 place ≡ true
 late_place place is = grind (arith, nat_tests)
 

@@ -179,7 +179,7 @@ module _ (tells : Bool) (caller : Caller) (queue minute : ℕ) (script : List �
       Stores tells alone asked caller finding old new (Err (error_of cause))
   store_not_entered alone cause old new entry same = record { carries = not_entered tells alone asked caller finding keeps old new cause entry same; number = tt }
 
--- what a session stored stands after it
+-- what a session stored holds after it
 pub stores_within : (tells alone : Bool) (asked : ToolRequest) (caller : Caller) (finding : Finding) (before entered left after : World) (result : Result ℕ CommandError) →
     (tells ≡ true → alone ≡ true → entered ≡ before) → (tells ≡ true → alone ≡ true → after ≡ left) →
     Stores tells true asked caller finding entered left result → Stores tells alone asked caller finding before after result

@@ -26,7 +26,7 @@ use Rattle.spool_model.specs.Steps.{FollowDraws, after_steps}
 use Rattle.at_day.specs.EventOutcomes.{AreCommandSteps, AreCommandStepsBy}
 use Rattle.at_day.specs.GivenCommand.{HasReadClock}
 
--- each Accept among the steps of a request stands after its Draw
+-- each Accept among the steps of a request comes after its Draw
 
 follow_forgets : (numbers : List ℕ) → FollowDraws false (forget_steps numbers)
 follow_forgets [] = tt

@@ -24,6 +24,6 @@ not_live (Some (Live job state)) number table is none = absurd (none (job, state
 pub no_row : (table : JobTable) (number : ℕ) → (IsLive table number → ⊥) → is_live_in table number ≡ false
 no_row table number none = not_live (entry_at table number) number table refl none
 
--- how a number stands tells whether its notice was sent or dropped
+-- the state of a number says whether its notice was sent or dropped
 pub open_none : (notes : List Note) (number : ℕ) → IsNoticeStateAt notes number None → has_closing_note number notes ≡ false
 open_none notes number none = none_says (is_note_of number) is_closing_note notes none

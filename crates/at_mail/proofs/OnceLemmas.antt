@@ -53,7 +53,7 @@ same_once retired opening from image had handed is same as_many = record {
   once = is.once;
 }
 
--- what the notes of a session hand over comes to what was sent before
+-- what the notes of a session send is added to what was sent before
 module _ (retired : ℕ → Type 0) (opening : List Handed) (start : Files) (had : List Handed) (base : IsOnce retired opening start had) (files : Files) (table : JobTable)
     (notes steps : List Note) (are : Rattle.mail_session.specs.SessionOutcome.AreMailSteps files table notes steps) (same : base.notes ≡ notes)
     (unnamed : (number : ℕ) → retired number → has_note_of number notes ≡ false → has_note_of number steps ≡ false) where

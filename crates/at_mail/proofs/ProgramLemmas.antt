@@ -30,7 +30,7 @@ use Rattle.at_mail.specs.declared.request.PostRequest.{PostRequest}
 use Rattle.at_mail.specs.inside.OneSession.{HasMade}
 use Rattle.at_mail.proofs.MakingLemmas.{children_same, keeps_all, last_more, output_rose}
 
--- What the words request is told apart.
+-- What the words request is distinguished.
 same_fault : (asked : Result PostRequest WordsFault) (one other : WordsFault) → Err one ≡ asked → asked ≡ Err other → one ≡ other
 same_fault asked one other first second = let same : ◌≡◌ {A = Result PostRequest WordsFault} (Err one) (Err other) = first ∙ second in cc
 

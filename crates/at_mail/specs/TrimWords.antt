@@ -16,6 +16,6 @@ trim_app = app_with (codes "atpost") (long_flag_rule (codes "trim") ∷ [])
 abbrev pub trim_rows_asked : List Row → Result (Unit {0}) WordsFault
 trim_rows_asked rows = if is_set (codes "trim") rows then Ok tt else Err Usage
 
--- what the words request, the first of which stands for the program's name; without it they request nothing
+-- what the words request, the first of which is the program's name; without it they request nothing
 abbrev pub trim_asked : List Text → Result (Unit {0}) WordsFault
 trim_asked words = named_asked trim_app trim_rows_asked words

@@ -24,6 +24,6 @@ sessions_asked _ _ = Err Usage
 abbrev pub matches_asked : List Row → Result PostRequest WordsFault
 matches_asked rows = sessions_asked (first_of (codes "send") rows) (turns_asked (first_of (codes "turns") rows))
 
--- what the words request, the first of which stands for the program's name; without it they request nothing
+-- what the words request, the first of which is the program's name; without it they request nothing
 abbrev pub post_asked : List Text → Result PostRequest WordsFault
 post_asked words = named_asked post_app matches_asked words

@@ -10,7 +10,7 @@ use at_words::{WordsFault, bare_command, has_flag, parsed, with_long_flag};
 use clap::{ArgMatches, Command};
 use std::alloc::{AllocError, Global};
 
-// Whether the words request a trim, the first of which stands for the program's name.
+// Whether the words request a trim, the first of which is the program's name.
 pub(crate) fn ask_for_a_trim(alloc: Global, words: &[String]) -> Result<(), WordsFault>
     ensures { Answers (trim_asked (map string_bytes words.now)) result }
 {

@@ -15,7 +15,7 @@ use clap::{ArgMatches, Command};
 use host_calls::Text;
 use std::alloc::{AllocError, Global};
 
-// What the words request, the first of which stands for the program's name.
+// What the words request, the first of which is the program's name.
 pub(crate) fn mail_request(alloc: Global, words: &[String]) -> Result<PostRequest, WordsFault>
     ensures asked { Answers (post_asked (map string_bytes words.now)) result }
     ensures program { IfOk result (λ request. IsTrue (may_be_program request.program)) }

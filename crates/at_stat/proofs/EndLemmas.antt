@@ -38,7 +38,7 @@ pub stopped_code : (cause : Cause) → HasCode (stopped_status cause)
 stopped_code cause other same = let one : cause ≡ other = (let some : ◌≡◌ {A = Option Cause} (Some cause) (Some other) = same in cc) in
     ap (λ (of : Cause). (stopped_status of).code) one
 
--- requests are told apart
+-- requests are distinguished
 same_request : (one other : StatRequest) → ◌≡◌ {A = Result StatRequest WordsFault} (Ok one) (Ok other) → one ≡ other
 same_request one other same = cc
 
@@ -189,7 +189,7 @@ module _ (asked : Result StatRequest WordsFault) (caller : Caller) (at : Outside
       (stopped_code (Refused refusal))
       (inl (subst (λ (one : Option Refusal). EndsChecked one request caller at at (stopped_status (Refused refusal))) (sym check) (idle (Refused refusal)))))
 
-  -- faults of words are told apart
+  -- faults of words are distinguished
   same_fault : (one other : WordsFault) → Err one ≡ asked → asked ≡ Err other → one ≡ other
   same_fault one other first second = let same : ◌≡◌ {A = Result StatRequest WordsFault} (Err one) (Err other) = first ∙ second in cc
 

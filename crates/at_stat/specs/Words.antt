@@ -69,6 +69,6 @@ stat_matches_asked rows =
     (which_asked (first_of (codes "queue") rows) (operands_of rows))
     (form_asked (is_set (codes "json") rows))
 
--- what the words request, the first of which stands for the program's name; without it they request nothing
+-- what the words request, the first of which is the program's name; without it they request nothing
 abbrev pub stat_asked : List Text → Result StatRequest WordsFault
 stat_asked words = named_asked stat_app stat_matches_asked words

@@ -17,7 +17,7 @@ use clap::{ArgMatches, Command};
 use spool_model::LAST_NUMBER;
 use std::alloc::{AllocError, Global};
 
-// What the words request, the first of which stands for the program's name.
+// What the words request, the first of which is the program's name.
 pub(crate) fn stat_request(alloc: Global, words: &[String]) -> Result<StatRequest, WordsFault>
     ensures asked { Answers (stat_asked (map string_bytes words.now)) result }
     ensures turns { IfOk result (λ request. IfSome request.wait (λ turns. 1 ≤ turns)) }

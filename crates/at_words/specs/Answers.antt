@@ -33,7 +33,7 @@ module _ {T : Type 0} where
   abbrev pub asked_of : App → (List Row → Result T WordsFault) → List Text → Result T WordsFault
   asked_of app asked words = if_taken (fault_of app words) (asked (matches_of app words))
 
-  -- the same, where the first word stands for the program's name; without it they request nothing
+  -- the same, where the first word is the program's name; without it they request nothing
   abbrev pub named_asked : App → (List Row → Result T WordsFault) → List Text → Result T WordsFault
   named_asked app asked [] = Err Usage
   named_asked app asked (name ∷ words) = asked_of app asked (name ∷ words)

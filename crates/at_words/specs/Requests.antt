@@ -12,7 +12,7 @@ use Rattle.at_words.specs.declared.tool.Tool.{Tool}
 use Rattle.at_words.specs.declared.tool.Tool.TheVariants.{At, Batch, Atq, Atrm, Atd, Atday}
 use Rattle.at_words.specs.declared.tool_request.ToolRequest.{ToolRequest}
 
--- what a tool is requested by these words, the first of which stands for its name
+-- what a tool is requested by these words, the first of which is its name
 unfoldable pub request_to : Tool → List Text → Result ToolRequest WordsFault
 request_to At words = asked_of at_app at_asked words
 request_to Batch words = asked_of batch_app batch_asked words

@@ -4,7 +4,7 @@ use Rattle.std.specs.Str.{bytes_eq}
 use Rattle.at_words.specs.declared.tool.Tool.{Tool}
 use Rattle.at_words.specs.declared.tool.Tool.TheVariants.{At, Batch, Atq, Atrm, Atd, Atday}
 
--- what is after the last slash of a word, where this stands after the last one so far
+-- what is after the last slash of a word, where this comes after the last one so far
 abbrev pub part_after : List ℕ → List ℕ → List ℕ
 part_after part [] = part
 part_after part (byte ∷ others) = part_after (if byte == 47 then others else part) others

@@ -17,7 +17,7 @@ use clap::{ArgMatches, Command};
 use host_calls::Text;
 use std::alloc::{AllocError, Global};
 
-/// What the words of `at` request, the first of which stands for its name.
+/// What the words of `at` request, the first of which is its name.
 pub fn request(alloc: Global, words: &[String]) -> Result<ToolRequest, WordsFault>
     ensures { Answers (asked_of at_app at_asked (map string_bytes words.now)) result }
 {
@@ -83,7 +83,7 @@ fn list_request(alloc: Global, matches: &ArgMatches) -> Result<ToolRequest, Word
     Ok(ToolRequest::List(filter))
 }
 
-// The numbers of a removal or a showing, next to which nothing stands.
+// The numbers of a removal or a showing, which have nothing next to them.
 fn numbers_alone(alloc: Global, matches: &ArgMatches) -> Result<Numbers, WordsFault>
     ensures { Answers (action_numbers (rows_of (found_of matches.now))) result }
 {

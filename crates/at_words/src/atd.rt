@@ -20,7 +20,7 @@ const MAX_TURNS: u64 = 4_611_686_018_427_387_904;
 // The most seconds between two batch jobs.
 const MAX_INTERVAL: u32 = 999_999_999;
 
-/// What the words of `atd` request, the first of which stands for its name.
+/// What the words of `atd` request, the first of which is its name.
 pub fn request(alloc: Global, words: &[String]) -> Result<ToolRequest, WordsFault>
     ensures { Answers (asked_of atd_app atd_asked (map string_bytes words.now)) result }
 {

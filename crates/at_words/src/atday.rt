@@ -17,7 +17,7 @@ use std::alloc::{AllocError, Global};
 /// The most events of a day that is made from a number.
 pub const MAX_EVENTS: u32 = 2_000;
 
-/// What the words of `atday` request, the first of which stands for its name.
+/// What the words of `atday` request, the first of which is its name.
 pub fn request(alloc: Global, words: &[String]) -> Result<ToolRequest, WordsFault>
     ensures { Answers (asked_of atday_app atday_asked (map string_bytes words.now)) result }
 {

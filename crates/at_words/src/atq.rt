@@ -14,7 +14,7 @@ use crate::{ToolRequest, WordsFault};
 use clap::{ArgMatches, Command};
 use std::alloc::{AllocError, Global};
 
-/// What the words of `atq` request, the first of which stands for its name.
+/// What the words of `atq` request, the first of which is its name.
 pub fn request(alloc: Global, words: &[String]) -> Result<ToolRequest, WordsFault>
     ensures { Answers (asked_of atq_app atq_asked (map string_bytes words.now)) result }
 {

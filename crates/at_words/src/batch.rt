@@ -14,7 +14,7 @@ use clap::{ArgMatches, Command};
 use host_calls::Text;
 use std::alloc::{AllocError, Global};
 
-/// What the words of `batch` request, the first of which stands for its name.
+/// What the words of `batch` request, the first of which is its name.
 pub fn request(alloc: Global, words: &[String]) -> Result<ToolRequest, WordsFault>
     ensures { Answers (asked_of batch_app batch_asked (map string_bytes words.now)) result }
 {

@@ -32,7 +32,7 @@ pub fn request_by(
     }
 }
 
-// What the tool is requested by these words, the first of which stands for its name.
+// What the tool is requested by these words, the first of which is its name.
 fn request_to(alloc: Global, tool: Tool, words: &[String]) -> Result<ToolRequest, WordsFault>
     ensures { Answers (request_to tool (map string_bytes words.now)) result }
 {

@@ -52,7 +52,7 @@ pub fn is_unreadable(zone: &Zone) -> bool
     matches!(zone, Zone::Unreadable)
 }
 
-/// The rules by which a zone that could be read tells the time.
+/// The rules by which a zone that could be read gives the time.
 pub(crate) fn time_zone(zone: &Zone) -> TimeZone<'static>
     requires { IsReadable zone.now }
     ensures { plain_zone result ≡ rules_of zone.now }

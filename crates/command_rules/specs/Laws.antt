@@ -56,7 +56,7 @@ module _ (Notes : Cause → (List ℕ → Type 0) → SinkAt → SinkAt → Type
       (known : EndsExposed Notes asked caller tells before after cause) →
       Attempts (OrNone (AreAskedSteps asked caller known.ends.found)) before.spool after.spool
 
-  -- What is done stands: each image shows the table after all steps of the command.
+  -- What is done is durable: each image shows the table after all steps of the command.
   abbrev pub FinishedWorkIsKept : Type 0
   FinishedWorkIsKept = (asked : Asked) (caller : Caller) (tells : Telling) (before after : Holding) →
       (known : EndsExposed Notes asked caller tells before after Done) →

@@ -23,7 +23,7 @@ use Rattle.command_rules.specs.Checks.{check_of, is_earlier_check, of_spool}
 use Rattle.command_rules.specs.Found.{allow_file, deny_file}
 use Rattle.command_rules.specs.Spool.{FindsDamage}
 
--- a table as a store keeps it: without its scripts, or, where no files are told, just as it is
+-- a table as a store keeps it: without its scripts, or, where no files are exposed, just as it is
 abbrev pub IsKeptOf : JobTable → JobTable → Type 0
 IsKeptOf kept table = (kept ≡ without_scripts table) ⊎ (kept ≡ table)
 

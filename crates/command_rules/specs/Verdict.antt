@@ -1,4 +1,4 @@
--- The verdict: the refusal that stands earliest in the order of checks, or none. Faults of the outside are not in it.
+-- The verdict: the refusal that comes earliest in the order of checks, or none. Faults of the outside are not in it.
 use Rattle.std.specs.Prelude.{◌&&◌, [], ◌∷◌, ℕ, Bool, true, false, List, Option, Some, None, Result, Ok, Err, length, map, nat_le, nat_lt, option_and_then, if◌then◌else◌}
 use Rattle.access_lists.specs.Access.{may_use}
 use Rattle.at_words.specs.declared.fault.WordsFault.{WordsFault}

@@ -6,7 +6,7 @@
 //! 2. `Causes` of tool_output: the cause that each fault of a call becomes
 //! 3. `Times`: the minute that the time of a submission means
 //! 4. `Checks` and `Found`: a check and its place in the order; what a command found outside
-//! 5. `Verdict`: the refusal that stands earliest, or none (`verdict_of`)
+//! 5. `Verdict`: the refusal that comes earliest, or none (`verdict_of`)
 //! 6. `Requested`: the steps of a request, and what it prints where it is done (`steps_of_request`, `IsAskedText`)
 //! 7. `Spool` and `Sessions`: what is left in the spool, by the cause (`SpoolEnds`), and in its session (`CommandWorks`)
 //! 8. `CommandEnds`: all of this in one record, for every request

@@ -45,7 +45,8 @@ pub(crate) fn mark_and_submit<H: Host>(
     ensures { MarksAndSubmits H.tells (H.session host.old) (H.session host.new) (H.world host.old) (H.world host.new)
         store minute (cron_jobs context.now minute due.now) numbers.old.items numbers.new.items result }
 {
-    // The mark stands before the first job does: a crash in between loses the rest of the minute, and never has it twice.
+    // The mark is durable before the first job is accepted: a crash in between loses the rest of the minute, and never
+    // has it twice.
     place_mark(alloc, host, minute)?;
     submit_all(alloc, host, store, context, minute, due, numbers)
 }

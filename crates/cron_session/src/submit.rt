@@ -18,7 +18,7 @@ use job_script::{Context, ScriptFault, write};
 use spool_store::{Store, StoreFault};
 use std::alloc::Global;
 
-// Submits a job of each of the commands at the minute, in order, and writes its number down once it stands.
+// Submits a job of each of the commands at the minute, in order, and writes its number down once it is accepted.
 pub(crate) fn submit_all<H: Host>(
     alloc: Global,
     host: &mut H,

@@ -68,7 +68,7 @@ field_none : (low high : ℕ) (rest : List ℕ) → field_in low high (35 ∷ re
 unfolding field_in
 field_none low high rest = rw (elements_none low high _) refl
 
--- a pattern stands neither in no bytes nor at a number sign
+-- a pattern is neither in no bytes nor at a number sign
 begins_none : (low high : ℕ) (field : Field) (rest : List ℕ) → ¬ BeginsWithField low high [] field rest
 begins_none low high field rest begins = go begins.pattern begins.spelled
   where

@@ -1,6 +1,6 @@
 -- The lines of a crontab (POSIX.1-2017, XCU crontab, Input Files: six fields with blanks between them, of which the
 -- first five are patterns of minute, hour, day of the month, month and day of the week, with Sunday as 0; blank lines
--- and those whose first byte that is no blank is a number sign are ignored). That blanks may stand before the first
+-- and those whose first byte that is no blank is a number sign are ignored). That blanks may come before the first
 -- field, and that a command has a byte and no zero byte, is this project's own.
 use Rattle.std.specs.Prelude.{◌≡◌, ◌==◌, ◌&&◌, ℕ, Bool, true, not, IsTrue, List, [], ◌∷◌, ◌++◌, length}
 use Rattle.std.specs.List.{list_all}

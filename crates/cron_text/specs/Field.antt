@@ -20,13 +20,13 @@ pub data SpellsSpan (text : List ℕ) (span : ℕ × ℕ) : Type 0 where
   two_numbers : (left right : List ℕ) (first last : ℕ) → text ≡ left ++ 45 ∷ right
       → SpellsCronNumber left first → SpellsCronNumber right last → span ≡ (first, last) → SpellsSpan text span
 
--- the range stands from low to high, and doesn't run backwards
+-- the range goes from low to high, and doesn't run backwards
 pub record IsSpanIn (low high : ℕ) (span : ℕ × ℕ) : Type 0 where
   pub from_low : low ≤ span.0
   pub forwards : span.0 ≤ span.1
   pub to_high : span.1 ≤ high
 
--- the element spells a range that stands from low to high
+-- the element spells a range that goes from low to high
 pub record SpellsElement (low high : ℕ) (text : List ℕ) (span : ℕ × ℕ) : Type 0 where
   pub spelled : SpellsSpan text span
   pub within : IsSpanIn low high span

@@ -34,6 +34,6 @@ listing_request None count = Err Usage
 abbrev pub listing_rows_asked : List Row → Result NextRequest WordsFault
 listing_rows_asked rows = listing_request (first_of (codes "file") rows) (count_asked (first_of (codes "next") rows))
 
--- what the words request, the first of which stands for the program's name; without it they request nothing
+-- what the words request, the first of which is the program's name; without it they request nothing
 abbrev pub next_asked : List Text → Result NextRequest WordsFault
 next_asked words = named_asked next_app listing_rows_asked words

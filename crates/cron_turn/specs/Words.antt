@@ -23,6 +23,6 @@ cron_request None turns = Err Usage
 abbrev pub crontab_asked : List Row → Result CronRequest WordsFault
 crontab_asked rows = cron_request (first_of (codes "file") rows) (turns_asked (first_of (codes "turns") rows))
 
--- what the words request, the first of which stands for the program's name; without it they request nothing
+-- what the words request, the first of which is the program's name; without it they request nothing
 abbrev pub cron_asked : List Text → Result CronRequest WordsFault
 cron_asked words = named_asked cron_app crontab_asked words

@@ -17,7 +17,7 @@ use tool_output::{cause_of_put, cause_of_words, say_cause};
 const PROGRAM: &str = "atcron";
 
 /// Lists the next minutes at which the entries of a crontab are due, from the minute after that of the clock on. No spool
-/// is looked at. The first of the words stands for the program's name, whatever it is.
+/// is looked at. The first of the words is the program's name, whatever it is.
 pub fn next_program<R: Readings, I: Inputs, O: Sink, E: Sink>(
     alloc: Global,
     words: &[String],

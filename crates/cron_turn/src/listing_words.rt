@@ -22,7 +22,7 @@ pub(crate) struct NextRequest {
     pub(crate) count: u32,
 }
 
-// What the words request, the first of which stands for the program's name; without it they request nothing.
+// What the words request, the first of which is the program's name; without it they request nothing.
 pub(crate) fn listing_request(alloc: Global, words: &[String]) -> Result<NextRequest, WordsFault>
     ensures { Answers (next_asked (map string_bytes words.now)) result }
 {

@@ -17,7 +17,7 @@ use std::alloc::Global;
 use tool_output::{Caller, CommandError, cause_of_words, say_cause};
 
 /// Makes sessions of a crontab, one after another: each reads the clock and the crontab, and submits a job of each entry
-/// that is due at this minute, unless that minute was had before. The first of the words stands for the program's name,
+/// that is due at this minute, unless that minute was had before. The first of the words is the program's name,
 /// whatever it is.
 pub fn cron_program<H: Host, R: Readings, I: Inputs, E: Sink>(
     alloc: Global,

@@ -18,7 +18,7 @@ pub(crate) struct CronRequest {
     pub(crate) turns: u64,
 }
 
-// What the words request, the first of which stands for the program's name; without it they request nothing.
+// What the words request, the first of which is the program's name; without it they request nothing.
 pub(crate) fn cron_request(alloc: Global, words: &[String]) -> Result<CronRequest, WordsFault>
     ensures { Answers (cron_asked (map string_bytes words.now)) result }
 {

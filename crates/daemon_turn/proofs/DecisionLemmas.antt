@@ -42,7 +42,7 @@ row_runs table row has is =
 abbrev pub EachRuns : JobTable → List Kid → Type 0
 EachRuns table kids = (kid : Kid) → Has kids kid → runs_in table kid ≡ true
 
--- the children of which the turn asks run
+-- the children that the turn polls run
 pub asked_run : (table : JobTable) (kids : List Kid) → EachRuns table (filter (runs_in table) kids)
 asked_run table kids kid has = (filtered_has (runs_in table) kids kid has).1
 

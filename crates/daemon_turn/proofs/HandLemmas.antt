@@ -67,14 +67,14 @@ script_is kept directory table number name queue nice file queue_is nice_is curr
     }
 
 module _ (kept : Kept) (number : ℕ) (second : ℤ) (old middle : World) (legal : IsLegal kept.table (Start number second)) where
-  -- a start that failed stands or not
+  -- a start that failed has taken effect or not
   pub start_stopped : (fault : StoreFault) (table : JobTable) → IsCurrent kept old.now.directory table →
       StoreCall {E = StoreFault} table (Start number second ∷ []) old middle (Err fault) →
       HandingEnds table number second old middle (Err fault)
   start_stopped fault table current call =
       calls_stop_at_their_step table (Start number second) old middle (legal_when_kept kept old.now.directory table (Start number second) current legal) current.shows call.files
 
-  -- one that stands is followed by the call that takes its script
+  -- one that took effect is followed by the call that takes its script
   start_ends : (last : Kept) (name : List ℕ) (nice : ℕ) (new : World) (result : Result Child StartFault) (table : JobTable) → IsCurrent kept old.now.directory table →
       StoreCall {E = StoreFault} table (Start number second ∷ []) old middle (Ok last) →
       ((directory : Directory) (shown : JobTable) → IsCurrent last directory shown → IsScriptFile shown (reading_of directory) number name nice) →

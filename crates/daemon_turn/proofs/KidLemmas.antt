@@ -30,14 +30,14 @@ filter_both {X} one other (x ∷ xs) = by_test (one x) (filter_both one other xs
   by_test true same = ap (λ (l : List X). cond (other x) (x ∷ l) l) same
   by_test false same = same
 
--- a step that tells of an end has its number
+-- a step that reports an end has its number
 end_number : (number : ℕ) (step : TurnStep) → tells_end_of number step ≡ true → number_of_step step ≡ number
 end_number number (HandedOver other second) is = cc
 end_number number (Ended other ending) is = eqb-true other number is
 end_number number (Interrupted other) is = cc
 end_number number (Forgotten other) is = cc
 
--- steps of other jobs tell of no end
+-- steps of other jobs report no end
 pub no_end_of : (number : ℕ) (steps : List TurnStep) → (Has (map number_of_step steps) number → ⊥) → list_any (tells_end_of number) steps ≡ false
 no_end_of number steps none = by_test (list_any (tells_end_of number) steps) refl where
   by_test : (b : Bool) → list_any (tells_end_of number) steps ≡ b → b ≡ false

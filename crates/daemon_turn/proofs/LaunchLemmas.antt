@@ -35,7 +35,7 @@ use Rattle.daemon_turn.proofs.WaitLemmas.{waiting_after}
 
 -- One start.
 
--- the job runs once its start stands
+-- the job runs once its start took effect
 pub started_runs : (table after : JobTable) (number : ℕ) (second : ℤ) → IsLegal table (Start number second) → after ≡ after_step table (Start number second) → IsRunning after number
 started_runs table after number second legal is =
     (legal.0, second, started_entry table after number second legal is)
@@ -136,7 +136,7 @@ started_join (number ∷ first) later [] more same = absurd (omega arith)
 started_join (number ∷ first) later (true ∷ flags) more same = ap (λ (l : List ℕ). number ∷ l) (started_join first later flags more (omega arith))
 started_join (number ∷ first) later (false ∷ flags) more same = started_join first later flags more (omega arith)
 
--- what starts, and the end of one, tell of whose job they are
+-- what starts, and the end of one, say whose job they are
 pub start_numbers : (numbers : List ℕ) (second : ℤ) (flags : List Bool) (number : ℕ) → Has (map number_of_step (steps_of_starts numbers second flags)) number → Has numbers number
 start_numbers [] second flags number has = absurd has
 start_numbers (first ∷ numbers) second [] number (inl same) = inl same

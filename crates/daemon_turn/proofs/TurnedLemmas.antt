@@ -203,7 +203,7 @@ module _ (tells : Bool) (before : Session) (old : World) (kept : Kept) (kids : L
           both_written : reported ≡ deciding.steps ++ starting.steps
           both_written = launches.written ∙ ap (λ (l : List TurnStep). l ++ starting.steps) written_first
 
-          -- starts, and what is forgotten, tell of no end of a child
+          -- starts, and what is forgotten, report no end of a child
           starts_no_end : (kid : Kid) → runs_in kept.table kid ≡ true → list_any (tells_end_of kid.number) starting.steps ≡ false
           starts_no_end kid runs = no_end_of kid.number starting.steps (λ has.
               (let prefix : List TurnStep = starting.steps ++ starting.next in

@@ -15,7 +15,7 @@ pub record DaemonState : Type 0 where
 abbrev pub new_daemon : ℕ → ℕ → DaemonState
 new_daemon limit interval = record { kids = []; limit = limit; interval = interval }
 
--- how a proof tells one daemon from another: by these three
+-- How a proof distinguishes one daemon from another: by these three
 abbrev pub daemon_code : Coded DaemonState
 daemon_code =
     code_by (List Kid × (ℕ × ℕ)) (coded× (coded_list kid.the_row.coded) (coded× coded_ℕ coded_ℕ))

@@ -43,12 +43,12 @@ questions [] answers = []
 questions (kid ∷ kids) [] = []
 questions (kid ∷ kids) (answer ∷ answers) = record { child = kid.child; answer = answer } ∷ questions kids answers
 
--- the end that an answer tells of a job, if it is one
+-- the end that an answer gives for a job, if it is one
 abbrev pub end_of : ℕ → Option Ending → List TurnStep
 end_of number None = []
 end_of number (Some ending) = Ended number ending ∷ []
 
--- the ends that the answers of children tell, the first children first
+-- the ends that the answers of children report, the first children first
 abbrev pub end_steps : List Kid → List (Option Ending) → List TurnStep
 end_steps [] answers = []
 end_steps (kid ∷ kids) [] = []

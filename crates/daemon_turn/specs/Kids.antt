@@ -17,18 +17,18 @@ AreKidsByNumber kids = AllPairs (λ one other. one.number < other.number) kids
 pub record AreChildren (children : List Child) (kids : List Kid) : Type 0 where
   pub each : (kid : Kid) → Contains kids kid → Contains children kid.child
 
--- the children that there were stand before those that there are
+-- the children that there were come before those that there are
 abbrev pub KeepsChildren : List Child → List Child → Type 0
 KeepsChildren old new = (more : List Child) × (new ≡ old ++ more)
 
--- the step tells that the job of the number has ended
+-- the step says that the job of the number has ended
 abbrev pub tells_end_of : ℕ → TurnStep → Bool
 tells_end_of number (Ended other ending) = other == number
 tells_end_of number (HandedOver other second) = false
 tells_end_of number (Interrupted other) = false
 tells_end_of number (Forgotten other) = false
 
--- the children that stay: those whose job ran, and of which the steps tell no end
+-- the children that stay: those whose job ran, and of which the steps report no end
 abbrev pub kept_kids : JobTable → List TurnStep → List Kid → List Kid
 kept_kids table steps kids = filter (λ kid. runs_in table kid && not (list_any (tells_end_of kid.number) steps)) kids
 

@@ -72,7 +72,8 @@ abbrev pub start_steps : ℕ → ℤ → Bool → List TurnStep
 start_steps number second true = HandedOver number second ∷ []
 start_steps number second false = HandedOver number second ∷ Ended number NotStarted ∷ []
 
--- The steps of starts, by whether a child came of each: after the last answer the next start stands, and no more.
+-- The steps of starts, by whether a child came of each: after the last answer the next start took effect, and no
+-- more.
 abbrev pub steps_of_starts : List ℕ → ℤ → List Bool → List TurnStep
 steps_of_starts [] second flags = []
 steps_of_starts (number ∷ numbers) second [] = HandedOver number second ∷ []

@@ -44,7 +44,8 @@ pub record TurnHandsOver (table : JobTable) (steps : List TurnStep) (given : Lis
   pub children : new.session.children ≡ old.session.children ++ map (λ kid. kid.child) added
   pub kids : AreKidsAfter table steps old.daemon.kids added new.daemon.kids
 
--- The turn was made to its end: its steps are all those of a turn on the table that the reading showed, and they stand.
+-- The turn was made to its end: its steps are all those of a turn on the table that the reading showed, and they took
+-- effect.
 pub record IsTurnDone (turn : Turn) (steps : List TurnStep) (old new : DaemonAt) : Type 0 where
   pub table : JobTable
   pub given : List Handed
@@ -53,7 +54,8 @@ pub record IsTurnDone (turn : Turn) (steps : List TurnStep) (old new : DaemonAt)
   pub achieved : IsAchieved table (steps_of_turn steps) old.world new.world
   pub gave : TurnHandsOver table steps given answers old new
 
--- The turn was stopped after a recovery: these are the first of its steps, and the next one may stand too.
+-- The turn was stopped after a recovery: these are the first of its steps, and the next one may have taken effect
+-- too.
 pub record IsTurnStopped (turn : Turn) (steps : List TurnStep) (old new : DaemonAt) : Type 0 where
   pub table : JobTable
   pub given : List Handed

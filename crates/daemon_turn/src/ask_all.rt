@@ -10,7 +10,7 @@ use host_calls::{Ending, Host};
 use std::alloc::{AllocError, Global};
 
 impl Turning {
-    // Asks each of the children, in order, and gives the ends that they tell.
+    // Polls each of the children, in order, and gives the ends that they report.
     pub(crate) fn ask_all<H: Host>(
         &self,
         alloc: Global,
@@ -30,7 +30,7 @@ impl Turning {
     }
 }
 
-// Writes down the end that the answer tells of the job, if it is one.
+// Writes down the end that the answer gives for the job, if it is one.
 fn write_end(
     known: &mut Vec<TurnStep>,
     number: u32,

@@ -70,7 +70,7 @@ impl Daemon {
         self.kids.as_slice()
     }
 
-    /// Makes one turn: gives up the jobs that run and that no child names, asks the children and ends the jobs of
+    /// Makes one turn: gives up the jobs that run and that no child names, polls the children and ends the jobs of
     /// those that have ended, starts the jobs that are due, and forgets the lowest done numbers.
     pub fn turn<H: Host>(
         &mut self,

@@ -10,8 +10,8 @@ use spool_store::{Store, StoreFault};
 use std::alloc::Global;
 
 impl Turning {
-    // Gives up the jobs that nobody watches, asks the children, ends the jobs of those that have ended, and drops these
-    // children, as far as their ends are written down.
+    // Gives up the jobs that nobody watches, polls the children, ends the jobs of those that have ended, and drops
+    // these children, as far as their ends are written down.
     pub(crate) fn decide<H: Host>(
         &mut self,
         alloc: Global,
@@ -31,7 +31,7 @@ impl Turning {
         made
     }
 
-    // Gives up the jobs that nobody watches, asks the children, and ends the jobs of those that have ended.
+    // Gives up the jobs that nobody watches, polls the children, and ends the jobs of those that have ended.
     fn make_decisions<H: Host>(
         &mut self,
         alloc: Global,

@@ -16,7 +16,7 @@ pub(crate) fn has_kid(kids: &[Kid], number: u32) -> bool
     kids.binary_search_by_key(&number, |kid| kid.number).is_ok()
 }
 
-// Drops the children of which the ends tell.
+// Drops the children that the ends name.
 pub(crate) fn drop_ended(kids: &mut Vec<Kid>, ended: &[TurnStep])
     requires { AreEndsByNumber ended.now }
     ensures { kids.new.items ≡ without_ended ended.now kids.old.items }

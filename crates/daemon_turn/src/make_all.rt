@@ -11,7 +11,7 @@ use spool_store::{Store, StoreFault};
 use std::alloc::{AllocError, Global};
 
 impl Turning {
-    // Makes the steps, in order, and writes down those that stand.
+    // Makes the steps, in order, and records those that took effect.
     pub(crate) fn make_all<H: Host>(
         &mut self,
         alloc: Global,

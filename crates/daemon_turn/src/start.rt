@@ -14,7 +14,7 @@ use spool_store::{Store, StoreFault};
 use std::alloc::Global;
 
 impl Turning {
-    // Starts the jobs of the numbers, in order, and writes each step down once it stands. The child of a start is a
+    // Starts the jobs of the numbers, in order, and records each step once it took effect. The child of a start is a
     // child.
     pub(crate) fn start_all<H: Host>(
         &mut self,

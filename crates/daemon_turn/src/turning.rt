@@ -21,8 +21,8 @@ use spool_model::State;
 use spool_store::{Store, StoreFault};
 use std::alloc::Global;
 
-// A turn under way: its children, and the steps that stand so far. Room for a step is taken before it is made, so that
-// none is made that could not be written down. The store goes from call to call: one that fails keeps it.
+// A turn under way: its children, and the steps that took effect so far. Room for a step is taken before it is made,
+// so that none is made that could not be written down. The store goes from call to call: one that fails keeps it.
 #[derive(Drop)]
 pub(crate) struct Turning {
     pub(crate) kids: Vec<Kid>,

@@ -52,7 +52,7 @@ follows_prefix drawn (step ∷ later) after follow =
     let both : MayFollow drawn step × FollowDraws (drawn_after step) (later ++ after) = follows_first drawn step (later ++ after) follow in
     follows_joined drawn step later both.0 (follows_prefix (drawn_after step) later after both.1)
 
--- steps that have started all that they hand over
+-- steps that have started all their scripts
 pub good_steps : (opening : JobTable) (all : List Step) (drawn : Bool) (given more : List Handed) (table : JobTable) (steps : List Step) →
     AreLegal table steps → FollowDraws drawn steps → All (Contains all) steps → Hands table steps more →
     IsGood opening all drawn given table → IsGood opening all false (given ++ more) (after_steps table steps)
@@ -87,7 +87,7 @@ good_lacking opening all given more table steps legal follow within lacks good =
     (All-head (Contains all) last [] (all_rest (Contains all) lacks.earlier (last ∷ []) within_all)) before in
     subst (λ (t : JobTable). IsGood opening all false (given ++ more) t) (sym (ap (after_steps table) lacks.ends ∙ parts.joined)) after
 
--- steps that have started what they hand over by now
+-- steps that have started the scripts that are theirs by now
 pub good_by_now : (opening : JobTable) (all : List Step) (given more : List Handed) (table : JobTable) (steps : List Step) →
     AreLegal table steps → FollowDraws false steps → All (Contains all) steps → HandsByNow table steps more →
     IsGood opening all false given table → IsGood opening all false (given ++ more) (after_steps table steps)

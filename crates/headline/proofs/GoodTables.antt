@@ -21,7 +21,7 @@ abbrev pub Differ : Handed → Handed → Type 0
 Differ first second = first.number ≢ second.number
 
 -- The table is sound, each script was started once, is that of a job that was pending in the opening table or that
--- all steps accept, and its start stands; and each pending job is such a job.
+-- all steps accept, and its start took effect; and each pending job is such a job.
 pub record IsGood (opening : JobTable) (all : List Step) (drawn : Bool) (given : List Handed) (table : JobTable) : Type 0 where
   pub sound : IsSound table
   pub once : AllPairs Differ given
@@ -69,7 +69,7 @@ pending_known opening all drawn given table step legal within good number job is
   | inr accepted ↦ inr (subst (Contains all) accepted within)
 ]
 
--- each start that stands does so after a step
+-- each start that took effect did so after a step
 all_stand : (opening : JobTable) (all : List Step) (drawn : Bool) (given : List Handed) (table : JobTable) (step : Step) →
     IsLegal table step → MayFollow drawn step → Contains all step → IsGood opening all drawn given table →
     All (λ handed. Holds all (drawn_after step) (after_step table step) handed.number) given
@@ -90,7 +90,7 @@ good_quiet opening all drawn given table step legal follows within good = record
   pending = pending_known opening all drawn given table step legal within good;
 }
 
--- the start of a pending job stands after it
+-- the start of a pending job took effect after it
 new_holds : (all : List Step) (table : JobTable) (number : ℕ) (second : ℤ) (handed : Handed) → IsSound table →
     IsStartOf table number handed → Holds all false (after_step table (Start number second)) handed.number
 new_holds all table number second handed sound is =

@@ -52,7 +52,7 @@ good_survives opening all first image handed is = record {
       (λ one holds. record { drawn = record { some = holds.some; drawn = holds.old }; started = holds.started }) is.given is.good.stand;
 }
 
--- steps that were begun hand over scripts of their own table
+-- steps that were begun start scripts of their own table
 begun_once : (table : JobTable) (steps : List Step) (old new : World) → FollowDraws false steps → IsShownBegun table steps old new →
     HandedOnce table steps old new
 begun_once table steps old new follow begun =

@@ -23,7 +23,7 @@ pub old_is_drawn : (drawn : Bool) (number last : ℕ) → IsOld drawn number las
 old_is_drawn true number last old = omega arith
 old_is_drawn false number last old = old
 
--- the number is old, and its start stands
+-- the number is old, and its start took effect
 pub record Holds (all : List Step) (drawn : Bool) (table : JobTable) (number : ℕ) : Type 0 where
   pub some : 1 ≤ number
   pub old : IsOld drawn number table.last
@@ -60,7 +60,7 @@ started_not_pending table all number job started pending = elim started [
   ]
 ]
 
--- where the entry is the same, the start still stands
+-- where the entry is the same, the start has still taken effect
 started_same : (table after : JobTable) (all : List Step) (number : ℕ) → entry_at after number ≡ entry_at table number →
     IsStartedOn table all number → IsStartedOn after all number
 started_same table after all number same started = elim started [
@@ -71,7 +71,7 @@ started_same table after all number same started = elim started [
   ]
 ]
 
--- where one entry was put, the start still stands, if it stands by that entry
+-- where one entry was put, the start has still taken effect, if it has by that entry
 started_put : (table after : JobTable) (all : List Step) (number changed : ℕ) (put : JobEntry) →
     after.entries ≡ map.insert table.entries changed put →
     (entry_at after number ≡ Some put → IsStartedOn after all number) → IsStartedOn table all number →
@@ -97,7 +97,7 @@ started_at table number second job pending =
     ap (λ (entries : JobEntries). map.get entries number) (started_entries table number second job pending)
     ∙ get-put_same table.entries number (Live job (Running second))
 
--- the start stands after a step, where a step that forgets is one of all
+-- the start has taken effect after a step, where a step that forgets is one of all
 started_after : (all : List Step) (drawn : Bool) (table : JobTable) (step : Step) (number : ℕ) → IsLegal table step →
     MayFollow drawn step → Contains all step → Holds all drawn table number → IsStartedOn (after_step table step) all number
 started_after all drawn table Draw number legal follows within holds = holds.started

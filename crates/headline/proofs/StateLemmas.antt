@@ -1,4 +1,4 @@
--- Where the host stands, over the events.
+-- The state of the host, over the events.
 use Rattle.std.proofs.Common.{◌≡◌, ◌++◌, List, [], ◌∷◌, ap, subst, sym, ◌∙◌, refl}
 use Rattle.std.specs.Prelude.{Ok, true, false}
 use Rattle.host_calls.specs.Directory.{Files, Directory, IsImage}
@@ -41,7 +41,7 @@ may_show old at table shown holds =
     holds (reading old) (reading_is_image old.now.directory) in
     (prefix.0, prefix.1, one_table (reading old) table (after_steps at.table prefix.0) shown prefix.2)
 
--- where the host stands after an effect
+-- the state of the host after an effect
 arrives : (effect : Effect) (old new : World) (at : SpoolState) → TakesShownEffect effect old new → IsInState old.now.directory at →
     (after : SpoolState) × ArrivesAt effect at after × IsInState new.now.directory after
 arrives Untouched old new at moved holds = (at, refl, still) where

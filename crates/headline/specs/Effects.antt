@@ -22,7 +22,7 @@ pub data Effect : Type 0 where
   Whole : (table : JobTable) (steps : List Step) → Effect
   Crashed : (image : Files) → Effect
 
--- The effect leads from one world to another. Each Accept among its steps stands directly after its Draw.
+-- The effect leads from one world to another. Each Accept among its steps comes directly after its Draw.
 abbrev pub TakesEffect : Effect → World → World → Type 0
 TakesEffect Untouched old new = IsUnbegun old new
 TakesEffect (Partial table steps) old new = FollowDraws false steps × IsBegun table steps old new

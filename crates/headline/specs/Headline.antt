@@ -1,4 +1,4 @@
--- What holds of every list of events (own): where the host stands, that no script is started twice, and that no
+-- What holds of every list of events (own): the state of the host, that no script is started twice, and that no
 -- script is started before its start survives every crash.
 use Rattle.std.specs.Prelude.{◌≡◌, ◌≢◌, ◌⊎◌, ◌++◌, [], ◌∷◌, ℕ, List, Some, None, All, AllPairs, Contains}
 use Rattle.host_calls.specs.declared.child.Handed.{Handed}
@@ -86,8 +86,8 @@ pub record StartHolds (table : JobTable) (steps : List Step) (handed : Handed) :
   pub drawn : IsDrawn table handed.number
   pub started : IsStartedOn table steps handed.number
 
--- The image shows a table in which the start of each script stands that was started since the first moment, no two
--- of them under one number.
+-- The image shows a table in which the start of each script has taken effect that was started since the first moment,
+-- no two of them under one number.
 pub record StartsSurvive (steps : List Step) (first : Moment) (image : Files) (handed : List Handed) : Type 0 where
   pub table : JobTable
   pub shows : Shows image table
@@ -97,9 +97,9 @@ pub record StartsSurvive (steps : List Step) (first : Moment) (image : Files) (h
   pub stand : All (StartHolds table steps) given
 
 -- What holds of events that begin where each image of the directory shows the opening table. Each image shows it after
--- what stands of each event; before each event and after the last the host stands where they leave it; over all of them
--- no number is started twice, and each starts scripts of its own table alone; and at each moment every image shows a
--- table in which each start stands.
+-- what took effect of each event; before each event and after the last the host is in the state where they leave it;
+-- over all of them no number is started twice, and each starts scripts of its own table alone; and at each moment every
+-- image shows a table in which each start took effect.
 pub record Headline (opening : JobTable) (events : List Passed) (old : World) : Type 0 where
   pub shows : ShowsAfter opening events (world_after old events)
   pub holds : PassesStates old (settled_at opening) events

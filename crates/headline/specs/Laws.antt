@@ -32,7 +32,7 @@ abbrev pub EachReadsATable : World → List Passed → Type 0
 EachReadsATable old [] = Unit {0}
 EachReadsATable old (event ∷ later) = ((table : JobTable) × Shows (reading old) table) × EachReadsATable event.left later
 
--- where the host stands through the events, none of them finds damage
+-- the state of the host through the events, none of them finds damage
 abbrev pub HostsReadTables : Type 0
 HostsReadTables = (old : World) (at : SpoolState) (events : List Passed) → PassesStates old at events →
     EachReadsATable old events

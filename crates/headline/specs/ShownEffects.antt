@@ -51,7 +51,7 @@ pub record IsShownAchieved (table : JobTable) (steps : List Step) (old new : Wor
   pub begun : IsShownBegun table steps old new
   pub whole : EachShows new.now.directory (after_steps table steps)
 
--- The effect leads from one world to another, as far as images show it. Each Accept stands directly after its Draw.
+-- The effect leads from one world to another, as far as images show it. Each Accept comes directly after its Draw.
 abbrev pub TakesShownEffect : Effect → World → World → Type 0
 TakesShownEffect Untouched old new = IsShownUnbegun old new
 TakesShownEffect (Partial table steps) old new = FollowDraws false steps × IsShownBegun table steps old new

@@ -26,7 +26,7 @@ abbrev pub IsInState : Directory → SpoolState → Type 0
 IsInState directory at = (image : Files) → IsImage directory image →
     (prefix : List Step) × IsPrefix prefix at.steps × Shows image (after_steps at.table prefix)
 
--- Where the host stands after an effect: where it stood, if no step was begun; else at the table that the reading showed,
+-- The state of the host after an effect: as it was, if no step was begun; else at the table that the reading showed,
 -- with the steps, if they were begun, and at the table after them, if all were made; after a crash at the table of its image.
 abbrev pub ArrivesAt : Effect → SpoolState → SpoolState → Type 0
 ArrivesAt Untouched before after = after ≡ before

@@ -1,8 +1,8 @@
 //! What holds of all events, each law as the contract of a function.
 ghost use Rattle.headline.specs.Laws.{AchievedStepsStand, AcknowledgedEventsAreWhole, EffectsAreShown, EventsHandOnce, EventsPassOn, LaterEventsLeave, SettledDirectoriesShowTheirTable, ShownEventsHandOnce, HostsReadTables, StillWorldsAreUnbegun};
 
-/// Over all events no script is started twice, or before its start survives every crash, and the host stands where
-/// the events leave it.
+/// Over all events no script is started twice, or before its start survives every crash, and the host is in the state
+/// where the events leave it.
 pub fn events_hand_once()
     ensures { EventsHandOnce }
 {}

@@ -6,7 +6,7 @@
 //!
 //! Its definitions are what a reader of the promise believes, and not what runs. In the order in which to read them:
 //! 1. `Effects`: what one event does to a host (`Effect`, `TakesEffect`, `IsEffectOf`), one after another (`PassFrom`)
-//! 2. `SpoolStates`: where the host stands between them (`IsInState`, `ArrivesAt`)
+//! 2. `SpoolStates`: the state of the host between them (`IsInState`, `ArrivesAt`)
 //! 3. `Headline`: what holds of all of them
 //! 4. `Laws`: that it does (`EventsHandOnce`)
 //! 5. `ShownEffects`: the same with no word of other files, for events that change some (`ShownEventsHandOnce`)

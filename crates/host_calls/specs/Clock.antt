@@ -1,4 +1,4 @@
--- What readings of the clock and of the load tell.
+-- What readings of the clock and of the load report.
 use Rattle.std.specs.Prelude.{◌+◌, ◌-◌, ◌^◌, ◌++◌, [], ◌∷◌, ℕ, ℤ, List, Option, length, min, nat_lt, if◌then◌else◌}
 
 -- each answer of the clock and of the load, in order, and for how many seconds a rest was asked
@@ -25,7 +25,7 @@ with_load load old = record { nows = old.nows; loads = with_answer old.loads loa
 abbrev pub with_rest : ℕ → Answers → Answers
 with_rest seconds old = record { nows = old.nows; loads = old.loads; rested = min (old.rested + seconds) last_count }
 
--- what every source of readings tells: what it was made as, and how often no load could be read
+-- what every source of readings reports: what it was made as, and how often no load could be read
 pub record Readers : Type 0 where
   pub made_as : List ℕ
   pub load_faults : ℕ

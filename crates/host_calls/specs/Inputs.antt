@@ -1,4 +1,4 @@
--- What inputs tell.
+-- What inputs report.
 use Rattle.std.specs.Prelude.{◌≡◌, ◌+◌, ◌-◌, ◌^◌, ◌⊎◌, ℕ, min, List, Option, option_map, Some, take}
 
 -- the bytes of standard input, and those of each file by its path
@@ -6,7 +6,7 @@ pub record Contents : Type 0 where
   pub standard : List ℕ
   pub file : List ℕ → Option (List ℕ)
 
--- what all inputs tell: what they were made as, how often they were read, and how often they failed
+-- what all inputs report: what they were made as, how often they were read, and how often they failed
 pub record Sources : Type 0 where
   pub made_as : List ℕ
   pub reads : ℕ

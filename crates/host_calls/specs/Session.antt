@@ -1,4 +1,4 @@
--- What every host tells of itself, also one that does not exposes its files.
+-- What every host reports of itself, also one that does not expose its files.
 use Rattle.std.specs.Prelude.{◌≡◌, ◌≤◌, ◌++◌, ℕ, Bool, true, false, List, Result, IfOk, Contains, is_ok, option_to_list}
 use Rattle.std.specs.Result.{result_ok}
 use Rattle.host_calls.specs.declared.child.Child.{Child}

@@ -1,9 +1,9 @@
--- What a sink tells.
+-- What a sink reports.
 use Rattle.std.specs.Prelude.{◌≡◌, ◌++◌, ℕ, List, take, Result, Ok, Err}
 use Rattle.host_calls.specs.declared.fault.SinkFault.{SinkFault}
 use Rattle.host_calls.specs.declared.fault.SinkFault.TheVariants.{Failed, Memory}
 
--- what every sink tells: what it was made as, and how often it failed
+-- what every sink reports: what it was made as, and how often it failed
 pub record Outlet : Type 0 where
   pub made_as : List ℕ
   pub sink_faults : ℕ

@@ -1,4 +1,4 @@
-//! The children that a host starts, and what it tells of them.
+//! The children that a host starts, and what it reports of them.
 use crate::Bytes;
 
 /// A child that a host started, by the number that the host gave it.
@@ -12,7 +12,7 @@ pub struct Child {
 pub enum Ending {
     /// It ended with this exit status.
     Exit(u8),
-    /// This signal ended it. 0 stands for one that isn't told.
+    /// This signal ended it. 0 stands for one that isn't reported.
     Signal(u8),
     /// It could not be started.
     NotStarted,

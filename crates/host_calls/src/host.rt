@@ -17,7 +17,7 @@ pub trait Host {
     /// Whether nobody else changes the directory.
     ghost alone: { Bool };
 
-    /// What every host tells.
+    /// What every host reports.
     ghost session: { Self → Session };
 
     /// Each moment so far. It is meant only where the host exposes its files.

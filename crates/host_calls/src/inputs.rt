@@ -14,7 +14,7 @@ pub trait Inputs {
     /// The content. It is meant only where it is exposed.
     ghost contents: { Self → Contents };
 
-    /// What all inputs tell.
+    /// What all inputs report.
     ghost sources: { Self → Sources };
 
     /// The first bytes of standard input: all of them, or `most`.

@@ -8,10 +8,10 @@ pub trait Readings {
     /// Whether it exposes its answers.
     ghost tells: { Bool };
 
-    /// The answers so far. They are meant only where they are told.
+    /// The answers so far. They mean something only where they are recorded.
     ghost answers: { Self → Answers };
 
-    /// What all readings tell.
+    /// What all readings report.
     ghost readers: { Self → Readers };
 
     /// Seconds since 1970-01-01 00:00:00 UTC.

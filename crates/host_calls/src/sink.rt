@@ -11,10 +11,10 @@ pub trait Sink {
     /// Whether it exposes its content.
     ghost tells: { Bool };
 
-    /// The bytes that were put. They are meant only where they are told.
+    /// The bytes that were put. They mean something only where they are recorded.
     ghost content: { Self → List ℕ };
 
-    /// What every sink tells.
+    /// What every sink reports.
     ghost outlet: { Self → Outlet };
 
     /// Puts the bytes after what is there.

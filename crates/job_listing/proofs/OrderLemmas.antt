@@ -80,7 +80,7 @@ moved_apart rows moved same differ =
     (IsPermutation-map (λ (row : Row). row.number) rows moved same)
     (IsDistinct-from_AllPairs same_number (row_numbers rows) differ)))
 
--- how two rows stand to one another: by minute, then number
+-- how two rows compare: by minute, then number
 abbrev pub row_cmp : Row → Row → Ordering
 row_cmp first second = ordering_then (nat_cmp first.minute second.minute) (nat_cmp first.number second.number)
 

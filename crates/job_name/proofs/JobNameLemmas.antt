@@ -19,7 +19,7 @@ pub few_digits : (new_form : Bool) → number_digits new_form ≤ 8
 few_digits true = omega arith
 few_digits false = omega arith
 
--- the form is told by how many digits the number has
+-- the form is known by how many digits the number has
 one_form : (new_form other : Bool) → number_digits new_form ≡ number_digits other → other ≡ new_form
 one_form true true same = refl
 one_form true false same = absurd (omega (arith, same))
@@ -37,7 +37,7 @@ in_range_of bytes queue number minute other_number other_minute new_form spelled
     let same : (slice_index bytes 0 ≡ queue) × (other_number ≡ number) × (other_minute ≡ minute) = one_job bytes queue number minute other_number other_minute new_form spelled digits eight in
     rw (same.0, same.1, same.2) spelled.in_range
 
--- the form is told by the length
+-- the form is known by the length
 pub form_known : (bytes : List ℕ) (queue number minute : ℕ) (new_form : Bool) → SpellsJobName bytes queue number minute new_form → (length bytes == 17) ≡ new_form
 form_known bytes queue number minute true spelled = ap (λ count. count == 17) spelled.counted
 form_known bytes queue number minute false spelled = ap (λ count. count == 17) spelled.counted

@@ -40,7 +40,7 @@ read_ends bytes name rest count r =
       | inr all ↦ subst (λ (it : List ℕ). Ends is_variable_byte it) (sym (r.back ∙ drop_all count bytes all)) tt
     ]
 
--- what is kept may stand
+-- what is kept is allowed
 kept_holds : (variable : List ℕ × List ℕ) → IsTrue (is_kept_variable variable) → IsTrue (may_be_set variable.0)
 kept_holds variable keeps = (both_hold (may_be_set variable.0) (has_no_zero variable.1) keeps).0
 
@@ -63,7 +63,7 @@ same_name bytes name rest more count r f =
     (sym (name_and_rest bytes name rest count r) ∙ f.text ∙ line_parts f.variable.0 (quoted f.variable.1) more) in
     record { names = both.0; goes_on = both.1 }
 
--- no line is there where the name may not stand
+-- no line is there where the name is not allowed
 pub no_name : (bytes name rest : List ℕ) (count : ℕ) → ReadsName bytes name rest count → false ≡ may_be_set name
     → (more : List ℕ) → ¬ IsLinePrefix bytes more
 no_name bytes name rest count r bad more f =
@@ -171,11 +171,11 @@ lines_after_by bytes more rest (v ∷ variables) f keeps p same =
 pub lines_after : (bytes more : List ℕ) → IsLinePrefix bytes more → HasLines bytes → HasLines more
 lines_after bytes more f h = lines_after_by bytes more h.rest h.variables f h.keeps h.change h.text
 
--- where the directory is changed at once, no lines stand before
+-- where the directory is changed at once, no lines come before
 pub no_lines : (bytes : List ℕ) → HasDirectory bytes → HasLines bytes
 no_lines bytes p = record { variables = []; keeps = refl; rest = bytes; change = p; text = refl }
 
--- where no line of a variable stands, the directory is changed at once
+-- where there is no line of a variable, the directory is changed at once
 only_directory_by : (bytes rest : List ℕ) (variables : List (List ℕ × List ℕ)) → ((more : List ℕ) → ¬ IsLinePrefix bytes more)
     → IsTrue (list_all is_kept_variable variables) → HasDirectory rest → bytes ≡ variable_lines variables ++ rest → HasDirectory bytes
 only_directory_by bytes rest [] none keeps p same = subst HasDirectory (sym same) p

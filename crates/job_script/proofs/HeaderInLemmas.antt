@@ -114,14 +114,14 @@ begins_some bytes user mail place (Some found) begins header =
     λ i. Some (same.0 i, same.1 i)
 begins_some bytes user mail place None fault header = absurd (fault.none (record { user = user; mail = mail; header = header }))
 
--- nothing is read where no header stands
+-- nothing is read where there is no header
 none_read : (bytes : List ℕ) (place : ℕ) (read : Option (List ℕ × Bool))
     → MatchOption read (IsHeaderFault bytes place) (λ found. BeginsWithHeader bytes found.0 found.1)
     → ¬ HasHeader bytes → (read ≡ None) × IsHeaderFault bytes place
 none_read bytes place (Some found) begins none = absurd (none (record { user = found.0; mail = found.1; header = begins }))
 none_read bytes place None fault none = (refl, fault)
 
--- no header stands where nothing is read
+-- there is no header where nothing is read
 read_none : (bytes : List ℕ) (place : ℕ) (read : Option (List ℕ × Bool))
     → MatchOption read (IsHeaderFault bytes place) (λ found. BeginsWithHeader bytes found.0 found.1)
     → read ≡ None → ¬ HasHeader bytes

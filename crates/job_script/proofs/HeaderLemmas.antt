@@ -176,7 +176,7 @@ take_after prefix x more far =
     let whole : more ≡ length prefix + (more - length prefix) = omega arith in
     ap (λ (n : ℕ). take n (prefix ++ x)) whole ∙ take-append-add prefix x (more - length prefix)
 
--- a fault where a user should stand
+-- a fault where a user should be
 pub fault_at_user : (bytes rest : List ℕ) → bytes ≡ before_user ++ rest → NoName rest → IsHeaderFault bytes 20
 fault_at_user bytes rest prefix none =
     let long : length bytes ≡ 20 + length rest = ap length prefix ∙ length-append before_user rest in

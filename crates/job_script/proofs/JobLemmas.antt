@@ -48,7 +48,7 @@ directory_prefix bytes word prefix p = record {
   ends = no_backslash 32 (drop 1 after_directory ++ p.commands) (λ same. omega arith);
 }
 
--- what is after the directory tells whether it is such a text
+-- what is after the directory says whether it is such a text
 pub directory_read : (bytes word more rest : List ℕ) (answer : Option (Bor (List ℕ))) (result : Bool)
     → bytes ≡ (99 ∷ 100 ∷ 32 ∷ []) ++ word → word ≡ 39 ∷ 47 ∷ more → IsQuotedPrefix word rest
     → MatchOption answer ((end : List ℕ) → rest ≢ after_directory ++ end) (λ end. rest ≡ after_directory ++ end.now)

@@ -15,7 +15,7 @@ abbrev pub EndsWord : List ℕ → Type 0
 EndsWord [] = Unit {0}
 EndsWord (x ∷ xs) = (x ≢ 39) × (x ≢ 92)
 
--- no piece stands where a word ends
+-- there is no piece where a word ends
 no_piece : (piece : Piece) (x more : List ℕ) → EndsWord x → x ≡ spelling piece ++ more → ⊥
 no_piece (between_quotes bytes) [] more ends same = cc same
 no_piece (between_quotes bytes) (c ∷ x) more ends same = ends.0 (cc same)
@@ -78,7 +78,7 @@ after_name name word rest = 61 ∷ (word ++ (codes "; export " ++ (name ++ (10 �
 pub line_parts : (name word rest : List ℕ) → variable_line name word ++ rest ≡ name ++ after_name name word rest
 line_parts name word rest = simp append_assoc
 
--- the bytes of a name that may stand are such bytes
+-- the bytes of a name that is allowed are such bytes
 pub name_bytes : (name : List ℕ) → IsTrue (may_be_set name) → IsTrue (list_all is_variable_byte name)
 name_bytes name may =
     (both_hold (begins_variable (slice_index name 0)) (are_variable_bytes name)

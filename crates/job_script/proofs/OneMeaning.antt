@@ -26,7 +26,7 @@ one_meaning text one two first second =
       commands = s.lines.commands i;
     }
 
--- variables that a job keeps may all stand
+-- variables that a job keeps are all allowed
 keeps_stand : (variables : List (List ℕ × List ℕ)) → IsTrue (list_all is_kept_variable variables) → MayAllBeSet variables
 keeps_stand [] keeps = tt
 keeps_stand (v ∷ variables) keeps =

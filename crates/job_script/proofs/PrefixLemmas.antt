@@ -144,7 +144,7 @@ open_goes_on bytes rest more o q =
     goes_on o.value q.value rest more q.ends
     (cc (o.text, q.text, append_assoc (flat_map quoted_part q.value) (39 ∷ []) more))
 
--- no byte of a value stands where an open value ends, so none goes on
+-- there is no byte of a value where an open value ends, so none goes on
 no_tail : (bytes rest more tail : List ℕ) → ((other : List ℕ) → ¬ IsPartPrefix rest other) → IsTrue (has_no_zero tail)
     → rest ≡ flat_map quoted_part tail ++ (39 ∷ more) → rest ≡ 39 ∷ more
 no_tail bytes rest more [] none no_zero same = same
@@ -160,7 +160,7 @@ tail_has_no_zero : (value tail : List ℕ) → IsTrue (has_no_zero (value ++ tai
 tail_has_no_zero value tail no_zero =
     (both_hold (has_no_zero value) (has_no_zero tail) (sym (list_all-append is_no_zero value tail) ∙ no_zero)).1
 
--- a value that is there ends where no byte of it stands any more
+-- a value that is there ends where there is no further byte of it
 pub ends_here : (bytes rest more : List ℕ) → IsOpen bytes rest → ((other : List ℕ) → ¬ IsPartPrefix rest other)
     → IsQuotedPrefix bytes more → rest ≡ 39 ∷ more
 ends_here bytes rest more o none q =

@@ -20,7 +20,7 @@ name_prefix bytes = if slice_index bytes 0 == 45 then [] else take_while is_user
 unfoldable pub user_in : List ℕ → List ℕ
 user_in bytes = name_prefix (drop (length before_user) bytes)
 
--- how many bytes of this flag of mail, with the end of its line, stand after that user
+-- how many bytes of this flag of mail, with the end of its line, come after that user
 unfoldable pub flag_alike : List ℕ → Bool → ℕ
 flag_alike bytes mail = alike (after_user mail) (drop (length (user_in bytes)) (drop (length before_user) bytes))
 
@@ -28,7 +28,7 @@ flag_alike bytes mail = alike (after_user mail) (drop (length (user_in bytes)) (
 unfoldable pub has_user : List ℕ → Bool
 has_user bytes = alike before_user bytes == length before_user && not (length (user_in bytes) == 0)
 
--- this flag of mail stands whole after that user
+-- this flag of mail comes whole after that user
 abbrev pub has_flag : List ℕ → Bool → Bool
 has_flag bytes mail = flag_alike bytes mail == length (after_user mail)
 

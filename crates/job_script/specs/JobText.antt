@@ -7,7 +7,7 @@ use Rattle.job_script.specs.Variables.{kept}
 use Rattle.job_script.specs.declared.context.Context.{Context}
 use Rattle.spool_model.specs.declared.job.Job.{Job}
 
--- a byte between single quotes: a single quote ends them, stands after a backslash, and opens them again
+-- a byte between single quotes: a single quote ends them, comes after a backslash, and opens them again
 abbrev pub quoted_part : ℕ → List ℕ
 quoted_part byte = if byte == 39 then codes "'\\''" else byte ∷ []
 

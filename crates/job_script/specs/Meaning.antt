@@ -15,7 +15,7 @@ pub data Piece : Type 0 where
 abbrev pub has_no_quote : List ℕ → Bool
 has_no_quote bytes = list_all (λ byte. not (byte == 39)) bytes
 
--- the shell reads the piece so: no single quote stands between quotes, and a newline after a
+-- the shell reads the piece so: there is no single quote between quotes, and a newline after a
 -- backslash would join two lines
 abbrev pub IsPiece : Piece → Type 0
 IsPiece (between_quotes bytes) = IsTrue (has_no_quote bytes)

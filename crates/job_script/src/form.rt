@@ -122,7 +122,7 @@ fn after_quoted(bytes: &[u8]) -> Option<&[u8]>
     after(rest, b"'")
 }
 
-// What is after one byte of a value, as it stands between single quotes.
+// What is after one byte of a value, as it is written between single quotes.
 fn after_part(bytes: &[u8]) -> Option<&[u8]>
     ensures { MatchOption result ((rest : List ℕ) → ¬ IsPartPrefix bytes.now rest)
         (λ rest. IsPartPrefix bytes.now rest.now) }

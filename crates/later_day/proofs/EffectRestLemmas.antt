@@ -17,7 +17,7 @@ use Rattle.later_day.specs.EffectLaws.{EffectsLeaveTheRest}
 use Rattle.later_day.specs.LaterEffects.{DoOneThing, IsBesideTheStore, LeavesTheRest}
 use Rattle.later_day.proofs.StartedJobs.{given_are_of_jobs}
 
--- nothing was handed over
+-- nothing was started
 nothing_given : (start : Moment) (image : Files) (handed : List Handed) → LeavesOthers IsSpoolName start.directory image →
     handed ≡ start.handed → IsBesideTheStore start image handed
 nothing_given start image handed alone same =

@@ -1,4 +1,4 @@
--- A session of mail hands over nothing for jobs: a notice begins with no header of a job.
+-- A session of mail starts nothing for jobs: a notice begins with no header of a job.
 use Rattle.std.proofs.Common.{◌≡◌, ◌++◌, ℕ, false, List, [], ◌∷◌, ap, ◌∙◌, refl, inl, inr}
 use Rattle.std.specs.Prelude.{None, is_some}
 use Rattle.host_calls.specs.declared.child.Handed.{Handed}
@@ -23,13 +23,13 @@ no_header : (program line : List ℕ) (job : NotedJob) → header_in (notice_tex
 unfolding header_in headers.has_user headers.alike
 no_header program line job = refl
 
--- so it is handed over for no job
+-- so it is started for no job
 notice_is_no_job : (of : Mailing) (number : ℕ) (handed : Handed) → IsHandedFor of number handed → is_of_job handed ≡ false
 notice_is_no_job of number handed is =
     ap (λ (script : List ℕ). is_some (header_in script)) is.notice.script_is
     ∙ ap is_some (no_header of.program (turn_text is.notice.end) is.notice.job)
 
--- and so is all that notes hand over
+-- and so is all that notes send
 notices_are_no_jobs : (of : Mailing) (notes : List Note) (given : List Handed) → SendsNotices of notes given → of_jobs given ≡ []
 notices_are_no_jobs of [] given hands = ap of_jobs hands
 notices_are_no_jobs of (Sent number ∷ later) given (first, rest, (handed, is, one), hands, both) =

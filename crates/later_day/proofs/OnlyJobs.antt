@@ -1,4 +1,4 @@
--- Worlds in which the scripts of jobs alone count as handed over.
+-- Worlds in which the scripts of jobs alone count as started.
 use Rattle.std.proofs.Common.{◌≡◌, ◌++◌, true, false, Bool, List, [], ◌∷◌, append-nil, refl, ap, ◌∙◌, All, cond, map}
 use Rattle.std.proofs.lemmas.List.Elements.{All-head, All-tail, filter-append}
 use Rattle.std.proofs.lemmas.List.{map-append}
@@ -7,7 +7,7 @@ use Rattle.host_calls.specs.Directory.{Files}
 use Rattle.host_calls.specs.World.{AllMoments, HasEachImage, LeavesOnly, Moment, World, moments}
 use Rattle.later_day.specs.LaterEffects.{is_of_job, jobs_at, of_jobs, only_jobs}
 
--- what was handed over for jobs alone stays, and of what was handed over for none nothing does
+-- what was started for jobs alone stays, and of what was started for none nothing does
 pub jobs_stay : (given : List Handed) → All (λ handed. is_of_job handed ≡ true) given → of_jobs given ≡ given
 jobs_stay [] all = refl
 jobs_stay (handed ∷ others) all =
@@ -17,7 +17,7 @@ jobs_stay (handed ∷ others) all =
 pub others_go : (handed : Handed) (given : List Handed) → is_of_job handed ≡ false → of_jobs (handed ∷ given) ≡ of_jobs given
 others_go handed given is = ap (λ (test : Bool). cond test (handed ∷ of_jobs given) (of_jobs given)) is
 
--- of more that was handed over, the jobs of both
+-- of more that was started, the jobs of both
 pub of_both : (given more : List Handed) → of_jobs (given ++ more) ≡ of_jobs given ++ of_jobs more
 of_both given more = filter-append is_of_job given more
 

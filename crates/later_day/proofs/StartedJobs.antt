@@ -1,4 +1,4 @@
--- What steps that do one thing hand over is for jobs.
+-- What steps that do one thing start is for jobs.
 use Rattle.std.proofs.Common.{◌≡◌, ◌++◌, ℕ, ℤ, true, false, List, [], ◌∷◌, sym, ap, subst, ◌∙◌, inl, inr, All}
 use Rattle.std.specs.Prelude.{is_some}
 use Rattle.std.proofs.lemmas.List.Elements.{All-cons, All-contains, All-contains_itself, All-nil, All-weaker}
@@ -45,7 +45,7 @@ last_starts_nothing (End other ending ∷ later) number second quiet = last_star
 last_starts_nothing (Interrupt other ∷ later) number second quiet = last_starts_nothing later number second quiet
 last_starts_nothing (Forget other ∷ later) number second quiet = last_starts_nothing later number second quiet
 
--- and they hand over nothing
+-- and they start nothing
 hand_nothing : (table : JobTable) (steps : List Step) (given : List Handed) → StartNothing steps → Hands table steps given → given ≡ []
 hand_nothing table [] given quiet hands = hands
 hand_nothing table (Draw ∷ later) given quiet (first, rest, one, hands, both) =
@@ -103,7 +103,7 @@ of_shown_job files table steps handed shows quiet is = elim is.of_job [
 
 -- Both.
 
--- what a prefix of the steps hands over is for jobs
+-- what a prefix of the steps starts is for jobs
 pub given_are_of_jobs : (files : Files) (table : JobTable) (steps prefix : List Step) (given : List Handed) → Shows files table →
     AreLegal table steps → FollowDraws false steps → DoOneThing steps → IsPrefix prefix steps → HandsByNow table prefix given →
     of_jobs given ≡ given

@@ -21,7 +21,7 @@ abbrev pub SessionsGoBeside : Type 0
 SessionsGoBeside = (of : Mailing) (notes new_ones : List Note) (table : JobTable) (start end : World) →
     HasPosted of notes new_ones table start end → WentBeside start end
 
--- an effect of a command or of a turn leaves all other files alone, and hands over nothing but scripts of jobs
+-- an effect of a command or of a turn leaves all other files alone, and starts nothing but scripts of jobs
 abbrev pub EffectsLeaveTheRest : Type 0
 EffectsLeaveTheRest = (effect : Effect) (old new : World) → DoOneThing (steps_begun effect) → TakesEffect effect old new →
     LeavesTheRest old new

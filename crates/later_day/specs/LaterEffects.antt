@@ -1,4 +1,4 @@
--- What one event does to a host on which notices are handed over too (own): an effect on the job table, or nothing but a
+-- What one event does to a host on which notices are sent too (own): an effect on the job table, or nothing but a
 -- session next to it. A script that begins with the header of a job is one of a job; a notice begins with none.
 use Rattle.std.specs.Prelude.{◌≡◌, ◌⊎◌, ◌++◌, [], ◌∷◌, Bool, List, filter, is_some, map}
 use Rattle.host_calls.specs.declared.child.Handed.{Handed}
@@ -14,19 +14,19 @@ use Rattle.whole_file.specs.Others.{LeavesOthers}
 use Rattle.headline.specs.Effects.{Effect, Passed, Untouched, steps_begun}
 use Rattle.headline.specs.ShownEffects.{TakesShownEffect}
 
--- this was handed over for a job: it begins with a header
+-- this was started for a job: it begins with a header
 abbrev pub is_of_job : Handed → Bool
 is_of_job handed = is_some (header_in handed.script)
 
--- of what was handed over, what was for jobs
+-- of what was started, what was for jobs
 abbrev pub of_jobs : List Handed → List Handed
 of_jobs handed = filter is_of_job handed
 
--- a moment of which no more is known of what was handed over
+-- a moment of which no more is known of what was started
 abbrev pub jobs_at : Moment → Moment
 jobs_at at = record { directory = at.directory; handed = of_jobs at.handed }
 
--- the world in which the scripts of jobs alone count as handed over
+-- the world in which the scripts of jobs alone count as started
 abbrev pub only_jobs : World → World
 only_jobs world = record { now = jobs_at world.now; before = map jobs_at world.before; asked = world.asked }
 
@@ -45,7 +45,7 @@ AcceptNothing (Forget number ∷ later) = AcceptNothing later
 abbrev pub DoOneThing : List Step → Type 0
 DoOneThing steps = StartNothing steps ⊎ AcceptNothing steps
 
--- the image shows what an image of the start shows, and no script of a job was handed over since
+-- the image shows what an image of the start shows, and no script of a job was started since
 pub record LeavesJobsAlone (start : Moment) (image : Files) (handed : List Handed) : Type 0 where
   pub from : Files
   pub was : IsImage start.directory from
@@ -53,7 +53,7 @@ pub record LeavesJobsAlone (start : Moment) (image : Files) (handed : List Hande
   pub as_many : of_jobs handed ≡ of_jobs start.handed
 
 -- The table was left alone: each image of each moment, and each that the end leaves, shows what was there before, and no
--- script of a job was handed over.
+-- script of a job was started.
 pub record WentBeside (old new : World) : Type 0 where
   pub leaves : LeavesOnly (LeavesJobsAlone old.now) old new
   pub now : HasEachImage (LeavesJobsAlone old.now) new.now
@@ -83,11 +83,11 @@ abbrev pub effect_on_table : LaterEffect → Effect
 effect_on_table (OfTable effect) = effect
 effect_on_table Beside = Untouched
 
--- the events, where the scripts of jobs alone count as handed over
+-- the events, where the scripts of jobs alone count as started
 abbrev pub passed_jobs : List LaterPassed → List Passed
 passed_jobs events = map (λ event. record { effect = effect_on_table event.effect; left = only_jobs event.left }) events
 
--- The image has the files of an image of the start that are none of the store's, and what was handed over since is for jobs.
+-- The image has the files of an image of the start that are none of the store's, and what was started since is for jobs.
 pub record IsBesideTheStore (start : Moment) (image : Files) (handed : List Handed) : Type 0 where
   pub others : LeavesOthers IsSpoolName start.directory image
   pub given : List Handed

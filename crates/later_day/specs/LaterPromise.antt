@@ -1,5 +1,5 @@
 -- The promise (own). Over every list of events on a machine (commands, turns of the daemon, reboots at any moment, sessions
--- of mail and of crontabs): the headline is true of the scripts of jobs; no notice is handed over twice; and no minute has
+-- of mail and of crontabs): the headline is true of the scripts of jobs; no notice is sent twice; and no minute has
 -- two sessions of crontabs that accepted a job.
 use Rattle.std.specs.Prelude.{◌≡◌, ◌≢◌, [], ℕ, List, AllPairs}
 use Rattle.host_calls.specs.ClockRange.{minute_at}

@@ -1,4 +1,4 @@
--- What the events of a day are among events where notices of mail are handed over too, and what holds of all of these (own).
+-- What the events of a day are among events where notices of mail are sent too, and what holds of all of these (own).
 use Rattle.std.specs.Prelude.{List}
 use Rattle.host_calls.specs.World.{World}
 use Rattle.headline.specs.Effects.{Effect}
@@ -9,7 +9,7 @@ use Rattle.later_day.specs.LaterMachines.{LaterMachine}
 use Rattle.later_day.specs.LaterOutcomes.{AreLaterDoneOn, LaterOutcome}
 use Rattle.later_day.specs.LaterPromise.{KeepsLaterPromise}
 
--- the effect leads from one world to another where notices are handed over too, and leaves alone what is next to the
+-- the effect leads from one world to another where notices are sent too, and leaves alone what is next to the
 -- store
 pub record PassesLater (effect : Effect) (old new : World) : Type 0 where
   pub later : TakesLaterEffect (OfTable effect) old new

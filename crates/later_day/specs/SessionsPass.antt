@@ -43,7 +43,7 @@ pub record PassesCron (cron : Cron) (end : CronEnd) (numbers : List ℕ) (old ne
   pub later : TakesLaterEffect (OfTable effect) old new
   pub mail : IsBesideMail old new
 
--- The notes of mail and the mark of the crontab are left alone, and no notice is handed over.
+-- The notes of mail and the mark of the crontab are left alone, and no notice is sent.
 pub record PassesBeside (old new : World) : Type 0 where
   pub mail : IsBesideMail old new
   pub mark : KeepsMark old.now.directory new.now.directory

@@ -2,7 +2,7 @@
 ghost use Rattle.later_day.specs.EffectLaws.{EffectsLeaveTheRest, LaterEventsHandOnce, SessionsGoBeside};
 ghost use Rattle.later_day.specs.EventsLaws.{BesideTheStorePass, CronSessionsPass, MailSessionsPass};
 
-/// Over all events, notices of mail among them, no script of a job is handed over twice, or before its start survives every
+/// Over all events, notices of mail among them, no script of a job is started twice, or before its start survives every
 /// crash, and the host is in the state in which the events leave it. A session of mail goes on next to the table.
 pub fn later_events_hand_once()
     ensures events { LaterEventsHandOnce }
@@ -10,7 +10,7 @@ pub fn later_events_hand_once()
 {}
 
 /// What a command or a turn does leaves all files alone that are none of the store's, those of mail and of crontabs among
-/// them, and hands over no notice.
+/// them, and starts no notice.
 pub fn effects_leave_the_rest()
     ensures { EffectsLeaveTheRest }
 {}
@@ -26,7 +26,7 @@ pub fn cron_sessions_pass()
     ensures { CronSessionsPass }
 {}
 
-/// Whatever leaves alone all files but the store's, and hands over nothing but scripts of jobs, leaves the notes of mail and
+/// Whatever leaves alone all files but the store's, and starts nothing but scripts of jobs, leaves the notes of mail and
 /// the mark of the crontab alone.
 pub fn beside_the_store_pass()
     ensures { BesideTheStorePass }

@@ -17,8 +17,8 @@ fn open_spool(rt: &impl Abort, alloc: Global) -> Result<MemoryHost, AllocError>
     spool(rt, alloc, &[(b"at.deny", b"")], Plan::quiet(alloc))
 }
 
-// Two jobs are handed over, and the machine crashes before their ends are told. No call gets through from then on, until it
-// crashes once more. The jobs are given up, and the end of each is told once; the crontab has each minute once.
+// Two jobs are started, and the machine crashes before their ends are reported. No call gets through from then on, until it
+// crashes once more. The jobs are given up, and the end of each is reported once; the crontab has each minute once.
 const STEPS: [Step; 19] = [
     Step::At(FIRST),
     Step::Cron(FIRST),
@@ -58,7 +58,7 @@ fn tell_all(rt: &impl Abort, alloc: Global, host: &mut MemoryHost) -> Result<Str
     Ok(lines)
 }
 
-// The number of each script that was handed over, and how nice it was.
+// The number of each script that was started, and how nice it was.
 fn handed_now(alloc: Global, host: &MemoryHost) -> Result<Vec<(u32, u8)>, AllocError> {
     let mut all = Vec::new(alloc);
     for handed in host.handed() {

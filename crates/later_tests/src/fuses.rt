@@ -29,7 +29,7 @@ fn one_end(rt: &impl Abort, alloc: Global, plan: Plan) -> Result<MemoryHost, All
     spool(rt, alloc, &files, plan)
 }
 
-// Of each notice that was handed over, whether a child came.
+// Of each notice that was sent, whether a child came.
 fn children_of(alloc: Global, host: &MemoryHost) -> Result<Vec<bool>, AllocError> {
     let mut all = Vec::new(alloc);
     for handed in host.handed() {
@@ -38,7 +38,7 @@ fn children_of(alloc: Global, host: &MemoryHost) -> Result<Vec<bool>, AllocError
     Ok(all)
 }
 
-// Of each notice that was handed over in such a day, whether a child came.
+// Of each notice that was sent in such a day, whether a child came.
 fn handed_in_day(rt: &impl Abort, alloc: Global, fuse: u64, pick: u64) -> Result<Vec<bool>, Fail> {
     let mut host = one_end(rt, alloc, fused(alloc, fuse))?;
     let made = make_posts(rt, alloc, pick, &mut host);

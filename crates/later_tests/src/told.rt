@@ -28,7 +28,7 @@ pub fn day_on(
     later_day(alloc, events, SENDMAIL, host)
 }
 
-/// Makes the events happen, and tells a line of each: how it ended, and the numbers of what it accepted or handed over.
+/// Makes the events happen, and tells a line of each: how it ended, and the numbers of what it accepted or started.
 pub fn told(
     rt: &impl Abort,
     alloc: Global,

@@ -1,4 +1,4 @@
--- Where the parts of a load text stand.
+-- Where the parts of a load text are.
 use Rattle.std.proofs.Common.{◌≡◌, ℕ, ◌^◌, ◌<◌, ◌≤◌, Bool, true, false, cond, IsTrue, List, [], ◌∷◌, ◌++◌, length, drop, arith, refl, sym, subst}
 use Rattle.std.proofs.Math.Nat.{pow-le-pow_right}
 use Rattle.std.proofs.Math.Seq.{drop-append_seam}
@@ -19,7 +19,7 @@ list_all-prefix test (byte ∷ bytes) =
     rw (take_while-cons test byte bytes)
     (prefix-cons test byte (take_while test bytes) (test byte) refl (list_all-prefix test bytes))
 
--- a run of digits ends where the point stands
+-- a run of digits ends where the point is
 pub count-before_point : (whole rest : List ℕ) → IsTrue (list_all is_ascii_digit whole) → prefix_len is_ascii_digit (whole ++ 46 ∷ rest) ≡ length whole
 count-before_point [] rest digits = refl
 count-before_point (byte ∷ whole) rest digits =
@@ -33,7 +33,7 @@ pub count-load : (text : List ℕ) (load : ℕ) → (spelled : SpellsLoad text l
 count-load text load spelled =
     rw (spelled.spelled, spelled.fraction.spelled) (count-before_point spelled.whole _ spelled.digits)
 
--- after those digits stands the fraction
+-- those digits are followed by the fraction
 pub fraction-load : (text : List ℕ) (load : ℕ) → (spelled : SpellsLoad text load) → SpellsFraction (drop (prefix_len is_ascii_digit text) text) spelled.hundredths
 fraction-load text load spelled =
     let after : drop (prefix_len is_ascii_digit text) text ≡ spelled.rest =

@@ -60,7 +60,7 @@ closed_here notes number next here closing noted = record {
   closed = any_here (is_note_of number) is_closing_note notes next here ∙ rw closing (or-true _);
 }
 
--- a note that may come says how its job stands
+-- a note that may come says the state of its job
 holds_here : (notes : List Note) (next : Note) → is_note_allowed notes next ≡ true → IsNoticeStateAt (notes ++ next ∷ []) (number_of_note next) (Some (notice_state_after next))
 holds_here notes (Noted job) may =
     let none : has_note_of job.number notes ≡ false = not_true (has_note_of job.number notes) may in

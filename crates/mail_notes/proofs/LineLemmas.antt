@@ -67,7 +67,7 @@ none_spelled line number digits rest None begins back is fits none = λ note spe
   of = spelled.of;
 })
 
--- Where the parts of a text stand.
+-- Where the parts of a text are.
 module _ (rest after : List ℕ) (parted : rest ≡ 32 ∷ after) (file : List ℕ) (flag : ℕ) (user : List ℕ) (parts : AreParts rest file flag user) where
   after_is : after ≡ file ++ (32 ∷ flag ∷ 32 ∷ user)
   after_is = ap (drop 1) (sym parted ∙ parts.is)

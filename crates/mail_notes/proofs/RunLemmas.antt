@@ -24,7 +24,7 @@ first_of_more prefix first later is = (is.0 ++ later, ap (λ (l : List Note). l 
 first_after : (first prefix later : List Note) → IsNotesPrefix prefix later → IsNotesPrefix (first ++ prefix) (first ++ later)
 first_after first prefix later is = (is.0, ap (λ (l : List Note). first ++ l) is.1 ∙ sym (append_assoc first prefix is.0))
 
--- what notes hand over, and what others after them do
+-- what notes send, and what others after them do
 pub hands_then : (of : Mailing) (first later : List Note) (given more : List Handed) → SendsNotices of first given → SendsNotices of later more →
     SendsNotices of (first ++ later) (given ++ more)
 hands_then of [] later given more before after = subst (λ (l : List Handed). SendsNotices of later (l ++ more)) (sym before) after

@@ -37,7 +37,7 @@ AreNoticeStates notes states = (number : ℕ) → IsNoticeStateAt notes number (
 abbrev pub AreStatesOfNotes : List Note → NoticeStates → Type 0
 AreStatesOfNotes notes notice_states = AreNoticeStates notes notice_states.states
 
--- the note may come where its job stands so
+-- the note may come where its job is in this state
 abbrev pub note_may_follow : Option NoticeState → Note → Bool
 note_may_follow None (Noted job) = true
 note_may_follow None (Sent number) = false

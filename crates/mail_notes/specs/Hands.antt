@@ -1,4 +1,4 @@
--- What notes hand over (own): the notice of each that was sent.
+-- What notes send (own): the notice of each that was sent.
 use Rattle.std.specs.Prelude.{◌≡◌, ◌⊎◌, ◌++◌, [], ◌∷◌, ℕ, List, Option, Some, None, Contains}
 use Rattle.std.specs.FinMap as map
 use Rattle.host_calls.specs.declared.child.Handed.{Handed}
@@ -22,7 +22,7 @@ pub record Mailing : Type 0 where
   pub table : JobTable
   pub notes : List Note
 
--- the step of a turn that tells of an end; a job that was removed has none
+-- the step of a turn that reports an end; a job that was removed has none
 abbrev pub step_of_fate : ℕ → Fate → Option TurnStepText
 step_of_fate number (Finished ending) = Some (step.Ended number ending)
 step_of_fate number Interrupted = Some (step.Interrupted number)
@@ -65,7 +65,7 @@ SendsNotice of (Sent number) given = (handed : Handed) × IsHandedFor of number 
 SendsNotice of (Noted job) given = given ≡ []
 SendsNotice of (Dropped number) given = given ≡ []
 
--- what notes hand over, one after the other
+-- what notes send, one after the other
 abbrev pub SendsNotices : Mailing → List Note → List Handed → Type 0
 SendsNotices of [] given = given ≡ []
 SendsNotices of (note ∷ later) given =

@@ -64,7 +64,7 @@ pub(crate) fn number_of_note(note: &Note) -> u32
     }
 }
 
-// The note of a line with this letter and number, where this stands after the number.
+// The note of a line with this letter and number, where this comes after the number.
 fn note_in(letter: u8, number: u32, rest: &[u8]) -> Option<Note>
     ensures some { IfSome result (IsNoteText letter number rest.now) }
     ensures none { IfNone result ((note : Note) → ¬ (IsNoteText letter number rest.now note)) }

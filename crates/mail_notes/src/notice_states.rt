@@ -106,7 +106,7 @@ impl Keeper<Note> for NoticeStates {
     }
 }
 
-// Whether the note may come where its job stands so.
+// Whether the note may come where its job is in this state.
 fn note_may_follow(notice_state: Option<&NoticeState>, note: &Note) -> bool
     ensures { result ≡ note_may_follow (option_copied notice_state.entry) note.now }
 {

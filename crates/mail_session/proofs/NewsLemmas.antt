@@ -61,7 +61,7 @@ noted_from kept directory table number file user always current of holds header 
       header = ap (λ (j : Job). Rattle.job_script.specs.HeaderIn.header_in j.script) (sym other) ∙ header.header;
     }
 
--- by how a number stands, some note is of it or none
+-- by the state of a number, some note is of it or none
 pub named_by : (notes : List Note) (number : ℕ) (held : Option NoticeState) → IsNoticeStateAt notes number held → is_some held ≡ has_note_of number notes
 named_by notes number None none = sym none
 named_by notes number (Some (Waits job)) waiting = sym (saying_names (is_note_of number) is_noting notes waiting.is_noted)

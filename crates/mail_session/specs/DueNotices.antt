@@ -25,7 +25,7 @@ abbrev pub kids_of : ℕ → Option Child → List Kid
 kids_of number None = []
 kids_of number (Some child) = record { number = number; child = child } ∷ []
 
--- The notes that were made, those that may stand too where it was stopped, and the children that came.
+-- The notes that were made, those that may have taken effect too where it was stopped, and the children that came.
 pub record MailPart : Type 0 where
   pub made : List Note
   pub next : List Note

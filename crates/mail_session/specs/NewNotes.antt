@@ -14,7 +14,7 @@ use Rattle.mail_notes.specs.Runs.{AreNotesMade, AreNotesStopped, HoldsNotesAlone
 use Rattle.mail_session.specs.News.{noting_of}
 use Rattle.mail_session.specs.NoticeFiles.{ReadsBeside}
 
--- what is left: these notes stand, or some of them may
+-- what is left: these notes are written, or some of them may be
 abbrev pub NotingEnds : Mailing → List Note → List Note → World → World → Result (Unit {0}) HostFault → Type 0
 NotingEnds of notes new_ones old new (Ok done) = AreNotesMade of notes new_ones [] [] old new
 NotingEnds of notes new_ones old new (Err fault) = AreNotesStopped of notes [] new_ones [] [] old new

@@ -14,7 +14,7 @@ pub record PostState : Type 0 where
 abbrev pub new_post : List ℕ → PostState
 new_post program = record { program = program; kids = [] }
 
--- how a proof tells one post from another: by these two
+-- How a proof distinguishes one post from another: by these two
 abbrev pub post_code : Coded PostState
 post_code =
     code_by (List ℕ × List Kid) (coded× (coded_list coded_ℕ) (coded_list kid.the_row.coded))

@@ -128,7 +128,8 @@ pub record IsMailDone (sent : List ℕ) (old new : PostSpool) : Type 0 where
   pub others : (name : List ℕ) → ¬ (IsSpoolName name) → ¬ (IsMailName name)
       → finite.get (reading new.world) name ≡ finite.get (reading old.world) name
 
--- The session was stopped: the first of its steps were made, and next ones may stand too, of which nothing was sent.
+-- The session was stopped: the first of its steps were made, and next ones may have taken effect too, of which
+-- nothing was sent.
 pub record IsMailStopped (sent : List ℕ) (old new : PostSpool) : Type 0 where
   pub table : JobTable
   pub notes : List Note

@@ -39,7 +39,7 @@ pub record HoldsPrefix (of : Mailing) (notes new_ones : List Note) (start : Mome
   pub hands : SendsNoticesByNow of prefix image given
 
 -- The image shows what an image of the start shows. It has the notes of that image, and nothing was sent since; or
--- it holds the notes and a prefix of the new ones, and what these hand over was sent.
+-- it holds the notes and a prefix of the new ones, and what these send was sent.
 pub record IsPosted (of : Mailing) (notes new_ones : List Note) (start : Moment) (image : Files)
     (handed : List Handed) : Type 0 where
   pub beside : ShowsBeside start.directory image

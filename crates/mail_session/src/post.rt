@@ -18,7 +18,7 @@ use listing_text::TurnStepText;
 use mail_notes::{NotedJob, notice_text};
 use std::alloc::{AllocError, Global};
 
-/// Notes what is due, in order, each after the notes of the text, and hands each notice over once its note stands. The
+/// Notes what is due, in order, each after the notes of the text, and sends each notice once its note is written. The
 /// child of a notice is a child. Room for what is kept of a notice is had before it is sent.
 pub fn post_all<H: Host>(
     alloc: Global,

@@ -66,7 +66,7 @@ fn run_plan<H: Host>(
     make_steps(alloc, host, program, plan, kids, sent)
 }
 
-// Asks the children, notes the new jobs, and makes what is due.
+// Polls the children, notes the new jobs, and makes what is due.
 fn make_steps<H: Host>(
     alloc: Global,
     host: &mut H,

@@ -118,7 +118,7 @@ fn a_spool_without_notes_gets_none(rt: HostRuntime) -> Result<(), Fail> {
 }
 
 // Whether a trim that a call of this number and each later one cut off leaves the notes of before or those of after it, and
-// two sessions after a reboot with the pick hand over the one notice that waits, once.
+// two sessions after a reboot with the pick send the one notice that waits, once.
 fn is_cut_off(rt: &impl Abort, alloc: Global, fuse: u64, pick: u64) -> Result<bool, AllocError> {
     let mut plan = Plan::quiet(alloc);
     plan.fuse = Some(fuse);

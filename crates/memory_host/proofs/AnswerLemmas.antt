@@ -17,7 +17,7 @@ module _ {X : Type 0} where
   answer_is (first ∷ others) number some =
       (_, slice_get-get_or (first ∷ others) (min number (length (first ∷ others) - 1)) first (omega arith))
 
-  -- the answers, where one more is told
+  -- the answers, where one more is reported
   answers_to-suc : (given : List X) (count : ℕ) → answers_to given (suc count) ≡ answers_to given count ++ option_to_list (answer_at given count)
   unfolding answers_to
   answers_to-suc given count = refl
@@ -36,7 +36,7 @@ module _ {X : Type 0} where
       let answer = answer_is given count some in
       ap length (one_more given count answer.0 answer.1) ∙ length-append (answers_to given count) (answer.0 ∷ []) ∙ omega (arith, length-answers_to given some count)
 
-  -- One answer more is told, while there are fewer than can be counted.
+  -- One answer more is reported, while there are fewer than can be counted.
   pub answer_more : (given : List X) (count next : ℕ) (answer : X) → 0 < length given → next ≡ min (count + 1) last_count → count ≤ last_count → answer_at given count ≡ Some answer → answers_to given next ≡ with_answer (answers_to given count) answer
   answer_more given count next answer some is counted known =
       let as_many : length (answers_to given count) ≡ count = length-answers_to given some count in

@@ -28,7 +28,7 @@ body_of-written offset bytes kept i =
       is_unsynced_at = λ place. (ap (λ b. not kept.is_synced || b) (list_any-append (λ range. is_within range.offset range.count place) kept.ranges (range ∷ [])) ∙ or_assoc (not kept.is_synced) (lies_in kept.ranges place) (is_within offset (length bytes) place)) i;
     }
 
--- a crash changes no certain body
+-- a crash changes no synced body
 pub crashed-durable : (pick : ℕ) (kept : KeptBody) → kept_crashed pick (kept_synced kept) ≡ kept_synced kept
 crashed-durable pick kept = ap (λ bytes. record { bytes = bytes; is_synced = true; ranges = [] }) (picked_bytes-durable pick (λ place. false) (λ place. refl) 0 kept.bytes)
 

@@ -11,7 +11,7 @@ length-picked : (pick : ℕ) (is_unsynced_at : ℕ → Bool) (place : ℕ) (byte
 length-picked pick is_unsynced_at place [] = refl
 length-picked pick is_unsynced_at place (byte ∷ others) = ap suc (length-picked pick is_unsynced_at (place + 1) others)
 
--- a byte at a certain place stays
+-- a byte at a synced place stays
 picked-durable : (pick : ℕ) (is_unsynced_at : ℕ → Bool) (start : ℕ) (bytes : List ℕ) (place : ℕ) → is_unsynced_at (start + place) ≡ false → get_or (picked_bytes pick is_unsynced_at start bytes) place 0 ≡ get_or bytes place 0
 picked-durable pick is_unsynced_at start [] place durable = refl
 picked-durable pick is_unsynced_at start (byte ∷ others) zero durable = rw (subst (λ n. is_unsynced_at n ≡ false) (add-zero start) durable) refl

@@ -72,14 +72,14 @@ change_done call done part old new past planned result goes_on known handed is_d
 
 -- What syncs leave.
 
--- what a crash leaves of a certain body it could leave before
+-- what a crash leaves of a synced body it could leave before
 may_hold-synced : (body : Body) (bytes : List ℕ) → MayHold (durable_body body) bytes → MayHold body bytes
 may_hold-synced body bytes is = by_sync body body.is_synced refl is where
   by_sync : (one : Body) (synced : Bool) → one.is_synced ≡ synced → IsSameElsewhere (durable_body one) bytes → MayHold one bytes
   by_sync one true synced same = rw synced (record { counted = same.counted; durable = λ place durable. same.durable place refl })
   by_sync one false synced same = rw synced (omega (arith, same.counted))
 
--- one body that holds less leaves images that could stand before
+-- one body that holds less leaves images that were possible before
 may_stand-less : (old new : ℕ → Body) → ((number : ℕ) (bytes : List ℕ) → MayHold (new number) bytes → MayHold (old number) bytes) → (held : Option ℕ) (holds : Option (List ℕ)) → MayHoldAt new held holds → MayHoldAt old held holds
 may_stand-less old new less None None is = tt
 may_stand-less old new less None (Some bytes) is = absurd is

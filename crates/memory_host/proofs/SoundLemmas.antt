@@ -15,7 +15,7 @@ record AreApart (holders : Holders) (next : ℕ) : Type 0 where
   below : (name : List ℕ) (number : ℕ) → holders name ≡ Some number → number < next
   apart : (first second : List ℕ) (number : ℕ) → holders first ≡ Some number → holders second ≡ Some number → first ≡ second
 
--- what is at a name after a put: the value itself, or what stood there
+-- what is at a name after a put: the value itself, or what was there
 put_cases : (name : List ℕ) (value : Option ℕ) (holders : Holders) (other : List ℕ) (number : ℕ) → put_at name value holders other ≡ Some number → ((name ≡ other) × (value ≡ Some number)) ⊎ (holders other ≡ Some number)
 put_cases name value holders other number is = by_case (eq_by_cmp name_cmp name other) refl is where
   by_case : (b : Bool) → eq_by_cmp name_cmp name other ≡ b → cond b value (holders other) ≡ Some number → ((name ≡ other) × (value ≡ Some number)) ⊎ (holders other ≡ Some number)

@@ -1,4 +1,4 @@
--- What the host in memory tells.
+-- What the host in memory reports.
 use Rattle.std.specs.Prelude.{◌≡◌, ◌++◌, [], ◌∷◌, ℕ, false, List, Option, length, option_to_list}
 use Rattle.std.specs.FinMap as map
 use Rattle.host_calls.specs.declared.child.Asked.{Asked}
@@ -12,7 +12,7 @@ use Rattle.memory_host.specs.Spelling.{spelled}
 use Rattle.memory_host.specs.declared.plan.Plan.{Plan}
 use Rattle.memory_host.specs.declared.memory_host.MemoryHost.{MemoryHost}
 
--- what every host tells
+-- what every host reports
 abbrev pub memory_session : MemoryHost → Session
 memory_session host =
     record {

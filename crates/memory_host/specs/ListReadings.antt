@@ -1,4 +1,4 @@
--- What list readings tell.
+-- What list readings report.
 use Rattle.host_calls.specs.Clock.{Answers, Readers}
 use Rattle.memory_host.specs.Readings.{answers_to, readings_spelling}
 use Rattle.memory_host.specs.declared.readings.ListReadings.{ListReadings}

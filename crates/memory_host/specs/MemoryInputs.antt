@@ -1,4 +1,4 @@
--- What inputs in memory tell.
+-- What inputs in memory report.
 use Rattle.std.specs.Prelude.{Bool, ◌||◌, not, is_some}
 use Rattle.host_calls.specs.Inputs.{Contents, Sources}
 use Rattle.memory_host.specs.Inputs.{given_contents, inputs_spelling}

@@ -1,4 +1,4 @@
--- What a sink in memory tells.
+-- What a sink in memory reports.
 use Rattle.std.specs.Prelude.{ℕ, List, Option}
 use Rattle.host_calls.specs.Sink.{Outlet}
 use Rattle.memory_host.specs.Sink.{sink_spelling}

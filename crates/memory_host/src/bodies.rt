@@ -80,8 +80,8 @@ impl Bodies {
         self.list[number].sync();
     }
 
-    // A number may be in the list twice: to make a body certain twice is to do it once.
-    /// Makes all bodies certain.
+    // A number may be in the list twice: to sync a body twice is to sync it once.
+    /// Syncs all bodies.
     pub fn settle(&mut self)
         ensures list { self.new.list.items ≡ with_each kept_synced self.old.unsettled.items self.old.list.items }
         ensures unsettled { self.new.unsettled.items ≡ [] }
@@ -119,7 +119,7 @@ fn crash_each(list: &mut [Body], numbers: &[usize], pick: u64)
     }
 }
 
-// Makes the body of this number certain, if there is one.
+// Syncs the body of this number, if there is one.
 fn sync_one(list: &mut [Body], number: usize)
     ensures { list.new ≡ with_kept kept_synced number list.old }
 {

@@ -70,7 +70,7 @@ fn names_change(pick: u64, number: usize) -> bool
     (pick >> (number % 64)) & 1 == 1
 }
 
-/// Makes the names of these changes certain.
+/// Makes the names of these changes durable.
 pub fn settle_each(held: &mut BTreeMap<Name, Held>, changes: &[Change])
     ensures now { HoldsSameNow held.old held.new }
     ensures durable { (name : List ℕ) → durable_in held.new name

@@ -68,7 +68,7 @@ pub fn set_now(held: &mut BTreeMap<Name, Held>, name: &Name, now: Option<usize>)
     }
 }
 
-/// Makes certain what the name holds now. A name that holds nothing is no longer kept.
+/// Makes durable what the name holds now. A name that holds nothing is no longer kept.
 pub fn settle_name(held: &mut BTreeMap<Name, Held>, name: &Name)
     ensures now { HoldsSameNow held.old held.new }
     ensures durable { (other : List ℕ) → durable_in held.new other
@@ -79,7 +79,7 @@ pub fn settle_name(held: &mut BTreeMap<Name, Held>, name: &Name)
     }
 }
 
-// Makes certain that a name that is kept holds this body, or none.
+// Makes it durable that a name that is kept holds this body, or none.
 fn settle_kept(held: &mut BTreeMap<Name, Held>, name: &Name, now: Option<usize>)
     requires kept { IsSome (get name_cmp held.old name.now) }
     requires now { now ≡ now_in held.old name.now }

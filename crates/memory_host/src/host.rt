@@ -154,7 +154,7 @@ impl Host for MemoryHost {
         requires { IsInside (memory_session self.old) }
         ensures { ChangesAsPlanned HasNamesSynced IsSyncedInPart self.old self.new result }
     {
-        // The names alone become certain, and no byte.
+        // The names alone become durable, and no byte.
         let part = self.next_part();
         if part == Some(Part::Nothing) {
             return self.fail();

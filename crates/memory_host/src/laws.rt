@@ -1,7 +1,7 @@
 //! What holds of each value that was made in memory, by what it was made as. Each law is the contract of a function.
 ghost use Rattle.memory_host.specs.Laws.{ChildrenAnswerAsPlanned, FaultsArePlanned, InputsHaveTheirContent, InputsKeepToContent, QuietHostsHaveNoFault, ReadingsKeepToLists, SinksKeepToPuts, SpellingsTellPlans};
 
-/// What a host was made as tells its plan and the fuses that its reboots have set.
+/// What a host was made as gives its plan and the fuses that its reboots have set.
 pub fn spellings_tell_plans()
     ensures { SpellingsTellPlans }
 {}

@@ -7,7 +7,7 @@ use Rattle.std.specs.Str.Pattern.{FindsChar, FindsText}
 abbrev pub umask_head : List ℕ
 umask_head = codes "\nUmask:\t"
 
--- after the first such head these bytes stand, up to the end of the line
+-- after the first such head come these bytes, up to the end of the line
 pub record IsUmaskLine (status line : List ℕ) : Type 0 where
   pub start : ℕ
   pub after : ℕ

@@ -34,7 +34,7 @@ are_same one other is =
 count_here : (place : ℕ × ℕ) (places : List (ℕ × ℕ)) → count place (place ∷ places) ≡ 1 + count place places
 count_here place places = sum_by-cons (one_if place) place places ∙ ap (λ (b : Bool). cond b 1 0 + count place places) (itself place)
 
--- a place that exists stands between a prefix and a suffix
+-- a place that exists is between a prefix and a suffix
 abbrev Splits : ℕ × ℕ → List (ℕ × ℕ) → Type 0
 Splits place places = (prefix : List (ℕ × ℕ)) × (suffix : List (ℕ × ℕ)) × (places ≡ prefix ++ place ∷ suffix)
 

@@ -19,7 +19,7 @@ use Rattle.queue_rules.specs.Order.{IsNotAfter}
 use Rattle.queue_rules.specs.declared.due.Due.{Due}
 use Rattle.queue_rules.specs.Dues.{AreInLine, due_place, is_due_before, is_due_at}
 
--- the first stands before the second, or in the same place
+-- the first comes before the second, or in the same place
 abbrev pub InLine : Due → Due → Type 0
 InLine first second = IsNotAfter (due_place first) (due_place second)
 
@@ -62,7 +62,7 @@ not_itself due is = elim (before_is due due is) [ inl less ↦ omega (arith, les
 in_line_before : (first second : Due) → is_due_before first second ≡ true → InLine first second
 in_line_before first second is = elim (before_is first second is) [ inl less ↦ inl less | inr same ↦ let n = same.1 in inr (same.0, omega (arith, n)) ]
 
--- in line, no job that stands before another comes after one that does not
+-- in line, no job that comes before another comes after one that does not
 pub parted_before : (due_jobs : List Due) (due : Due) → AreInLine due_jobs → IsPartitionedBy (λ other. is_due_before other due) due_jobs
 parted_before due_jobs due line i j d low inside is = elim (cases_lt i j) [
   | inl less ↦ before_in_line (get_or due_jobs i d) (get_or due_jobs j d) due (line.ordered i j d less inside) is
@@ -79,7 +79,7 @@ parted_due due_jobs now line i j d low inside is = elim (cases_lt i j) [
   earlier first second (inl less) due = grind (arith, ints)
   earlier first second (inr same) due = subst (λ (m : ℕ). int_le (pos (60 * m)) now ≡ true) (sym same.0) due
 
--- one more between those that stand before it and the others
+-- one more between those that come before it and the others
 insert_pairs : {X : Type 0} (R : X → X → Type 0) (xs : List X) (i : ℕ) (x : X) → i ≤ length xs → AllPairs R xs → AllWithin (λ y. R y x) xs 0 i → AllWithin (λ y. R x y) xs i (length xs) → AllPairs R (insert xs i x)
 insert_pairs R xs zero x within pairs before after = AllPairs-cons R x xs (λ k d inside. after k d (omega arith) inside) pairs
 insert_pairs R [] (suc i) x within pairs before after = absurd (omega (arith, within))
@@ -102,7 +102,7 @@ still_in_line due_jobs due place line within point = record {
 pub in_line_without : (due_jobs : List Due) (place : ℕ) → place < length due_jobs → AreInLine due_jobs → AreInLine (remove due_jobs place)
 in_line_without due_jobs place within line = record { ordered = all_pairs_remove InLine due_jobs place within line.ordered }
 
--- two jobs of which neither stands before the other are the same
+-- two jobs of which neither comes before the other are the same
 one_place : (first second : Due) → InLine first second → InLine second first → first ≡ second
 one_place first second (inl a) (inl b) = absurd (omega (arith, a, b))
 one_place first second (inl a) (inr b) = let m = b.0 in absurd (omega (arith, a, m))
@@ -170,7 +170,7 @@ pub prefix_is_due : (due_jobs slice again old : List Due) (now : ℤ) (count : �
 prefix_is_due due_jobs slice again old now count same still view within point =
     ap (take count) (still ∙ sym same) ∙ prefix_passes (is_due_at now) slice count within point ∙ ap (filter (is_due_at now)) (same ∙ view)
 
--- how two jobs stand to one another: by minute, then number
+-- how two jobs compare: by minute, then number
 abbrev pub due_cmp : Due → Due → Ordering
 due_cmp first second = ordering_then (nat_cmp first.minute second.minute) (nat_cmp first.number second.number)
 

@@ -11,7 +11,7 @@ use Rattle.std.specs.declared.cmp.Ordering.{Ordering}
 use Rattle.std.specs.declared.cmp.Ordering.TheVariants.{Less, Equal, Greater}
 use Rattle.queue_rules.specs.Order.{IsNotAfter, IsFirstOf}
 
--- how two places stand to one another: by minute, then number
+-- how two places compare: by minute, then number
 abbrev pub place_cmp : ℕ × ℕ → ℕ × ℕ → Ordering
 place_cmp first second = ordering_then (nat_cmp first.0 second.0) (nat_cmp first.1 second.1)
 

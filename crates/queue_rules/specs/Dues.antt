@@ -14,7 +14,7 @@ due_of_row row = record { minute = row.minute; number = row.number }
 abbrev pub due_place : Due → ℕ × ℕ
 due_place due = (due.minute, due.number)
 
--- the first stands before the second
+-- the first comes before the second
 abbrev pub is_due_before : Due → Due → Bool
 is_due_before first second = nat_lt first.minute second.minute || (first.minute == second.minute && nat_lt first.number second.number)
 
@@ -22,7 +22,7 @@ is_due_before first second = nat_lt first.minute second.minute || (first.minute 
 abbrev pub is_due_at : ℤ → Due → Bool
 is_due_at now due = int_le (pos (60 * due.minute)) now
 
--- each job stands before the later ones, or in the same place
+-- each job comes before the later ones, or in the same place
 pub record AreInLine (due_jobs : List Due) : Type 0 where
   pub ordered : AllPairs (λ first second. IsNotAfter (due_place first) (due_place second)) due_jobs
 

@@ -27,11 +27,11 @@ is_ready_batch now row = is_ready now row && is_batch_queue row.queue
 abbrev pub place_in_queue : Row → ℕ × ℕ
 place_in_queue row = (row.minute, row.number)
 
--- the first place stands before the second, or is the same
+-- the first place comes before the second, or is the same
 abbrev pub IsNotAfter : ℕ × ℕ → ℕ × ℕ → Type 0
 IsNotAfter first second = (first.0 < second.0) ⊎ ((first.0 ≡ second.0) × (first.1 ≤ second.1))
 
--- the place is among the places, and stands after none of them
+-- the place is among the places, and comes after none of them
 pub record IsFirstOf (places : List (ℕ × ℕ)) (place : ℕ × ℕ) : Type 0 where
   pub held : Contains places place
   pub first : All (IsNotAfter place) places

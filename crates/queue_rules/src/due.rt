@@ -22,7 +22,7 @@ impl Due {
         }
     }
 
-    // Whether it stands before the other.
+    // Whether it comes before the other.
     pub(crate) fn is_before(&self, other: &Due) -> bool
         ensures { result ≡ is_due_before self.now other.now }
     {

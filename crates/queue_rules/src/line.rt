@@ -86,7 +86,7 @@ impl DueLine {
     }
 }
 
-// How many jobs of the line stand before this one: its place.
+// How many jobs of the line come before this one: its place.
 fn place_in_line(due_jobs: &[Due], due: Due) -> usize
     requires { AreInLine due_jobs.now }
     ensures bound { result ≤ length due_jobs.now }

@@ -1,5 +1,5 @@
-//! The clock and the streams of a process. What the clock answered and what the outputs took is told; what the input holds
-//! is what its witness knows.
+//! The clock and the streams of a process. What the clock answered and what the outputs took is reported; what the input
+//! holds is what its witness knows.
 ghost use Rattle.std.specs.Prelude.{◌≡◌, [], IfOk};
 ghost use Rattle.std.specs.Path.{IsAbsolute};
 

@@ -147,7 +147,7 @@ none_bad spells legal unique bytes records offset file first =
     (legal_rest legal [] first.records left.rest (subst (AreLegalAfter legal []) left.whole file.in_turn))
     (subst (HasBadFirstLine spells legal first.records) (sym (append-nil (drop offset bytes))) first.bad)
 
--- no first bad line stands before another
+-- no first bad line comes before another
 not_before : {R : Type 0} (spells : List ℕ → R → Type 0) (legal : List R → R → Type 0) → SpellsOne spells → (bytes : List ℕ) (one two : ℕ)
     → IsFirstBadLine spells legal bytes one → IsFirstBadLine spells legal bytes two → one < two → ⊥
 not_before spells legal unique bytes one two first second before =

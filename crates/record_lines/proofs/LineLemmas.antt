@@ -29,7 +29,7 @@ each_before byte (first ∷ later) (suc end) none = rw (none 0 (omega arith)) (e
 pub none_before : (byte : ℕ) (bytes : List ℕ) (end : ℕ) → position (λ other. other == byte) bytes ≡ Some end → HasNone byte (take end bytes)
 none_before byte bytes end found = each_before byte bytes end (position-Some (λ other. other == byte) bytes end 0 found).2
 
--- where the first newline stands
+-- where the first newline is
 pub line_ends : (bytes : List ℕ) (end : ℕ) → position is_newline bytes ≡ Some end → EndsAt bytes end
 line_ends bytes end found =
     let first = position-Some is_newline bytes end 0 found in

@@ -6,7 +6,7 @@ use std::alloc::AllocError;
 
 /// Tells which record may come next.
 pub trait Keeper<R: Copy> {
-    /// What is kept tells of these records, in their order.
+    /// What is kept holds these records, in their order.
     ghost tells: { List R → Self → Type 0 };
 
     /// After the records this one may come.

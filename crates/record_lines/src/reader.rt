@@ -23,7 +23,7 @@ impl From<AllocError> for LinesFault {
 }
 
 /// The records of a file, each of which may come after those before it. The keeper, which has no
-/// records yet, tells of them all afterwards; after a fault it tells of those that were read.
+/// records yet, holds them all afterwards; after a fault it holds those that were read.
 pub fn read_lines<R: LineRecord, K: Keeper<R>>(
     alloc: Global,
     bytes: &[u8],

@@ -57,7 +57,7 @@ where
     text_word(word)?.parse().map_err(|_| Why::Number)
 }
 
-/// A word as a second, which a minus may stand before.
+/// A word as a second, which a minus may come before.
 pub fn second_word(word: &[u8]) -> Result<i64, Why> {
     match word.strip_prefix(b"-") {
         Some(digits) => Ok(-i64::from(number_word::<u32>(digits)?)),

@@ -12,7 +12,7 @@ use Rattle.serving.specs.Serves.{ServeState, serve_at}
 use Rattle.tool_output.specs.Outside.{Telling, telling}
 use Rattle.serving.specs.Serving.{Serving}
 
--- all but the files is told
+-- all but the files is reported
 abbrev pub known : Telling
 known = telling false false true false true true
 
@@ -58,8 +58,9 @@ abbrev pub ServesTwice : World → Bool → ServeState → List ℕ → List ℕ
 ServesTwice world once end printed said of =
     Serving known once 2 (served_with world [] 0 [] [] [] 0 0) end (sink []) (sink printed) (sink []) (sink said) of
 
--- Two turns each: at a full minute a job is started whose child exits with 3, which is told at the next full minute;
--- only until no child is left, its child exits with 0 within a second; its child runs on; the spool is taken at first.
+-- Two turns each: at a full minute a job is started whose child exits with 3, which is reported at the next full
+-- minute; only until no child is left, its child exits with 0 within a second; its child runs on; the spool is taken
+-- at first.
 pub record SmallServings : Type 0 where
   pub minutes : (world : World) → ServesTwice world false
       (served_with world (first_child ∷ []) 0 [] (midnight ∷ minute_later ∷ []) (Some 42 ∷ None ∷ []) 60 1)

@@ -302,7 +302,7 @@ listed tells first last to list was is (Ok verdict) leaves same told =
     }
 listed tells first last to list was is (Err stopped) leaves same told = tell_stopped false tells first last to list was is stopped leaves same told
 
--- no file and no lock is at fault where the lines are told
+-- no file and no lock is at fault where the lines are recorded
 telling_no_file : (cause : Cause) → IsReportCause cause → ¬ (cause ≡ FileFault)
 telling_no_file OutputFault of = λ is. cc
 telling_no_file Memory of = λ is. cc

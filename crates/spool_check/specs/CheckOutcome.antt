@@ -80,8 +80,8 @@ abbrev pub WritesWhere : Bool → Bool → Files → DirectoryAt → DirectoryAt
 WritesWhere false tells files old new cause = new ≡ old
 WritesWhere true tells files old new cause = tells ≡ true → Writes files old new cause
 
--- What was done within a visit of the directory that is checked. It is left as it was, its faults are told, and the new directory is
--- written.
+-- What was done within a visit of the directory that is checked. It is left as it was, its faults are reported, and the new
+-- directory is written.
 pub record Checks (salvage tells : Bool) (first last : World) (to_old to_new : DirectoryAt) (was is : StreamAt)
     (cause : Cause) : Type 0 where
   pub leaves : tells ≡ true → LeavesDirectory first last

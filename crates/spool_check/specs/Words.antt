@@ -15,6 +15,6 @@ check_app = app_with (codes "atcheck") (long_flag_rule (codes "salvage") ∷ [])
 abbrev pub salvage_asked : List Row → Result Bool WordsFault
 salvage_asked rows = Ok (is_set (codes "salvage") rows)
 
--- what the words request, the first of which stands for the name
+-- what the words request, the first of which is the name
 abbrev pub check_asked : List Text → Result Bool WordsFault
 check_asked words = named_asked check_app salvage_asked words

@@ -76,6 +76,6 @@ fn write_target<H: Host, G: Host>(
 {
     place_whole(alloc, to, &journal_name(), journal)?;
     copy_all(alloc, from, to, names)?;
-    // Without a sequence file the directory shows no job, so nothing of it counts until all of it stands.
+    // Without a sequence file the directory shows no job, so nothing of it counts until all of it is there.
     place_whole(alloc, to, &sequence_name(), sequence)
 }

@@ -22,7 +22,7 @@ use tool_output::{CommandError, cause_of_words, say_cause};
 const TOOL: &str = "atcheck";
 
 /// Tells every fault of the directory, a line each, and where the words request it writes what is saved of it into the
-/// new directory. The first of the words stands for the program's name, whatever it is.
+/// new directory. The first of the words is the program's name, whatever it is.
 pub fn check_program<H: Host, G: Host, O: Sink, E: Sink>(
     alloc: Global,
     words: &[String],

@@ -8,7 +8,7 @@ use at_words::{WordsFault, bare_command, has_flag, parsed, with_long_flag};
 use clap::Command;
 use std::alloc::{AllocError, Global};
 
-// Whether the words request a salvage. The first of them stands for the program's name; without it they request nothing.
+// Whether the words request a salvage. The first of them is the program's name; without it they request nothing.
 pub(crate) fn asks_to_salvage(alloc: Global, words: &[String]) -> Result<bool, WordsFault>
     ensures { Answers (check_asked (map string_bytes words.now)) result }
 {

@@ -121,7 +121,7 @@ interrupted_sound all files before [] is sound so_far = subst (λ list. IsSound 
 interrupted_sound all files before (mark ∷ later) is sound so_far =
     interrupted_sound all files (before ++ mark ∷ []) later (append_assoc before (mark ∷ []) later ∙ is) sound (one_given_up all files before later mark is sound so_far)
 
--- The numbers that the first list does not name and that stand not among these are not named in the second one.
+-- The numbers that the first list does not name and that are not among these are not named in the second one.
 abbrev NamesOnly : List Mark → List ℕ → List Mark → Type 0
 NamesOnly all before base = (number : ℕ) → list_any (λ one. one == number) before ≡ false → has_mark_of number all ≡ false → has_mark_of number base ≡ false
 

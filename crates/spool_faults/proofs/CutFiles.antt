@@ -1,4 +1,4 @@
--- The first bytes of files tell of their faults what the whole files do.
+-- The first bytes of files show of their faults what the whole files do.
 use Rattle.std.proofs.Common.{◌≡◌, ℕ, Bool, true, false, cond, List, Option, Some, None, [], ◌∷◌, map, sym, ap, ◌∙◌, refl}
 use Rattle.std.specs.Prelude.{◌==◌, ◌||◌, is_some, option_map}
 use Rattle.std.specs.List.{cons_option, filter, list_any}

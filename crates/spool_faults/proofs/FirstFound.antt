@@ -20,7 +20,7 @@ use Rattle.spool_shows.proofs.CutFiles.{cut, files_cut}
 use Rattle.spool_faults.proofs.CutFiles.{queue_cut, queue_in}
 use Rattle.spool_faults.proofs.JobFaults.{found_take, headed, queues_known, queues_more, queues_same, unheaded}
 
--- the file, unless one of its number stands before it
+-- the file, unless one of its number comes before it
 abbrev unless_seen : Bool → JobFile → List JobFile
 unless_seen seen one = cond seen [] (one ∷ [])
 
@@ -32,7 +32,7 @@ first_more before [] one = by_seen (list_any (λ n. n == one.job.number) before)
   by_seen false = refl
 first_more before (file ∷ later) one =
     by_seen (list_any (λ n. n == file.job.number) before) refl (first_more before later one) (first_more (file.job.number ∷ before) later one) where
-      -- the number of the new file stands before, and that of one after
+      -- the number of the new file comes before, and that of one after
       among : Bool
       among = list_any (λ n. n == one.job.number) before
 

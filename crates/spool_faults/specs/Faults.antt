@@ -20,7 +20,7 @@ use Rattle.start_journal.specs.Taken.{journal_faults, marks_taken, taken_of}
 abbrev pub has_header : JobFile → Bool
 has_header file = is_some (header_in file.bytes)
 
--- of each number the first file, where files of these numbers stand before
+-- of each number the first file, where files of these numbers come before
 abbrev pub first_files : List ℕ → List JobFile → List JobFile
 first_files before [] = []
 first_files before (file ∷ later) =

@@ -1,4 +1,4 @@
--- How a proof tells one table from another: by the parts that it is made of.
+-- How a proof distinguishes one table from another: by the parts that it is made of.
 use Rattle.std.specs.Prelude.{ℕ, ℤ, Option, refl}
 use Rattle.std.specs.Coded.{Coded, code_by, coded×, coded_ℕ, coded_ℤ, coded_option}
 use Rattle.std.specs.FinMap as map

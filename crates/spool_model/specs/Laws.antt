@@ -19,7 +19,7 @@ NoStepLeadsBackToPending = (table : JobTable) (step : Step) → IsLegal table st
     entry_at (after_step table step) number ≡ Some (Live job Pending) →
     entry_at table number ≡ Some (Live job Pending)
 
--- where each Accept stands directly after its Draw, each number is accepted at most once
+-- where each Accept comes directly after its Draw, each number is accepted at most once
 abbrev pub NumbersAreAcceptedOnce : Type 0
 NumbersAreAcceptedOnce = (table : JobTable) (steps : List Step) → AreLegal table steps → FollowDraws false steps →
     (number : ℕ) → times_accepted number steps ≤ 1

@@ -84,7 +84,7 @@ AreLegal table (step ∷ later) = IsLegal table step × AreLegal (after_step tab
 abbrev pub IsPrefix : List Step → List Step → Type 0
 IsPrefix prefix steps = (after : List Step) × (steps ≡ prefix ++ after)
 
--- Each Accept stands directly after a Draw. The flag says that one stands before the first step.
+-- Each Accept comes directly after a Draw. The flag says that one comes before the first step.
 abbrev pub FollowDraws : Bool → List Step → Type 0
 FollowDraws drawn [] = Unit {0}
 FollowDraws drawn (Draw ∷ later) = FollowDraws true later

@@ -11,7 +11,7 @@ pub fn no_step_leads_back_to_pending()
     ensures { NoStepLeadsBackToPending }
 {}
 
-/// Where each Accept stands directly after its Draw, a number is accepted at most once, and never
+/// Where each Accept comes directly after its Draw, a number is accepted at most once, and never
 /// one that was drawn before.
 pub fn numbers_are_accepted_once()
     ensures once { NumbersAreAcceptedOnce }

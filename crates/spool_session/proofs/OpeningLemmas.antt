@@ -45,7 +45,8 @@ module _ (tells : Bool) (user : List ℕ) (allow deny : Option (List ℕ)) (old 
       })
   unrecovered _ of_reading recovered untouched = absurd of_reading
 
--- the store was recovered: its table is the one that the reading showed, or, where no files are told, the one that is kept
+-- the store was recovered: its table is the one that the reading showed, or, where no files are exposed, the one that is
+-- kept
 pub store_opened : (tells : Bool) (user : List ℕ) (allow deny : Option (List ℕ)) (old middle new : World) (kept : Kept) →
     may_use user allow deny ≡ true → (tells ≡ true → middle ≡ old) → (tells ≡ true → AreListsIn (reading old) allow deny) →
     (tells ≡ true → ChangesFiles (ShowsAsBefore middle.now.directory) middle new) →

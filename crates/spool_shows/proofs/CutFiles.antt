@@ -1,4 +1,4 @@
--- The first bytes of job files tell of their faults what the whole files do.
+-- The first bytes of job files show of their faults what the whole files do.
 use Rattle.std.proofs.Common.{◌≡◌, ℕ, zero, suc, ◌+◌, ◌<◌, ◌≤◌, Bool, true, false, cond, List, Option, Some, None, [], ◌∷◌, length, map, take, drop, max, eqb, ap, ◌∙◌, refl, arith}
 use Rattle.std.specs.Prelude.{◌==◌, ◌||◌, ◌&&◌, nat_lt, option_map, slice_get}
 use Rattle.std.specs.List.{cons_option, filter, filter_map, list_any}

@@ -19,7 +19,7 @@ use Rattle.spool_shows.proofs.EntryLists.{below, left, right}
 use Rattle.spool_shows.proofs.FileLemmas.{file_says, files_that_count}
 use Rattle.spool_shows.proofs.Membership.{Has, filtered_has, given_has}
 
--- each element of the list stands before those after it, by their keys
+-- each element of the list comes before those after it, by their keys
 abbrev pub AreInOrder : {X : Type 0} → (X → List ℕ) → List X → Type 0
 AreInOrder key [] = Unit {0}
 AreInOrder {X} key (x ∷ later) = ((other : X) → Has later other → name_cmp (key x) (key other) ≡ Less) × AreInOrder key later
@@ -56,7 +56,7 @@ files_in_order marks files =
     (order_filtered (λ (e : List ℕ × List ℕ). e.0) (λ (e : List ℕ × List ℕ). counts marks e.0) (entries files)
     (order_sorted (entries files) (entries_sorted files)))
 
--- no file stands before itself, and of two not each before the other
+-- no file comes before itself, and of two not each before the other
 pub not_before_itself : (file : JobFile) → ¬ (IsEarlierName file file)
 not_before_itself file before =
     let impossible : Less ≡ Equal = sym before ∙ tied_itself nat_list_cmp_total file.name in

@@ -94,7 +94,7 @@ pub record TellSame (number : ℕ) (one other : List Mark) : Type 0 where
   pub started : started_at number other ≡ started_at number one
   pub contained : (mark : Mark) → is_mark_of number mark ≡ true → Contains one mark → Contains other mark
 
--- then they tell the same of it
+-- then they say the same of it
 pub tell_same : (number : ℕ) (one other : List Mark) → marks_of number other ≡ marks_of number one → TellSame number one other
 tell_same number one other same = record {
   decided = same_test (decides number) (decides_names number);

@@ -1,4 +1,4 @@
--- What a directory shows of one number, told by its entry, and kept where the marks of the number and
+-- What a directory shows of one number, as its entry says, and kept where the marks of the number and
 -- the files of jobs are the same.
 use Rattle.std.proofs.Common.{◌≡◌, ℕ, Bool, true, false, cond, List, Option, Some, None, sym, ap, subst, ◌∙◌, refl, arith, inl, inr}
 use Rattle.std.specs.Prelude.{◌==◌, MatchBool}
@@ -74,7 +74,7 @@ pub leaves_as : (list : List Mark) (other number : ℕ) (fate : Fate) → other 
 leaves_as list other number fate same remembered =
     ap (λ b. cond b None (Some (other, Done fate))) (ap (λ n. is_forgotten n list) same ∙ remembered) ∙ ap (λ n. Some (n, Done fate)) same
 
--- what is told by an entry that a mark leaves
+-- what is known by an entry that a mark leaves
 record LeavesAs (marks : List Mark) (other number : ℕ) (entry : JobEntry) (fate : Fate) : Type 0 where
   same : other ≡ number
   remembered : is_forgotten number marks ≡ false
@@ -88,7 +88,7 @@ known_as marks other number fate entry leaves = by_test (is_forgotten other mark
       let same : other ≡ number = ap (λ (row : ℕ × JobEntry). row.0) (some_same leaves) in
       record { same = same; remembered = ap (λ n. is_forgotten n marks) (sym same) ∙ is; is = sym (ap (λ (row : ℕ × JobEntry). row.1) (some_same leaves)) }
 
--- the entry of a number tells this of the mark that left it
+-- the entry of a number says this of the mark that left it
 pub entry_left : (marks : List Mark) (number : ℕ) (entry : JobEntry) (mark : Mark) → done_entry marks mark ≡ Some (number, entry) → LeavesEntry marks number entry mark
 entry_left marks number entry (Removed other) leaves =
     let known = known_as marks other number fate.Removed entry leaves in

@@ -1,4 +1,4 @@
--- What the entry of a number tells of its marks and of its file, and when a directory stays sound.
+-- What the entry of a number says of its marks and of its file, and when a directory stays sound.
 use Rattle.std.proofs.Common.{◌≡◌, ℕ, ℤ, Bool, true, false, List, Option, Some, None, sym, ap, ◌∙◌, refl}
 use Rattle.std.specs.Prelude.{Contains, MatchBool}
 use Rattle.host_calls.specs.Directory.{Files}
@@ -35,7 +35,7 @@ pub record IsLiveBy (marks : List Mark) (files : Files) (number : ℕ) (job : Jo
 live_parts : (job other : Job) (state since : JobState) → Live job state ≡ Live other since → (job ≡ other) × (state ≡ since)
 live_parts job other state since same = (cc, cc)
 
--- the entry of a live job tells this
+-- the entry of a live job says this
 pub live_known : (marks : List Mark) (files : Files) (number : ℕ) (job : Job) (state : JobState) → ShowsEntry marks files number (Some (Live job state)) → IsLiveBy marks files number job state
 live_known marks files number job state shows = by_test (is_decided number marks) refl shows where
   by_test : (decided : Bool) → is_decided number marks ≡ decided → MatchBool decided (ShowsDone marks number (Some (Live job state))) (ShowsLive marks files number (Some (Live job state))) → IsLiveBy marks files number job state
@@ -60,7 +60,7 @@ pub record IsDoneBy (marks : List Mark) (number : ℕ) : Type 0 where
   pub decided : is_decided number marks ≡ true
   pub remembered : is_forgotten number marks ≡ false
 
--- the entry of a job that is done tells this
+-- the entry of a job that is done says this
 pub done_known : (marks : List Mark) (files : Files) (number : ℕ) (fate : Fate) → ShowsEntry marks files number (Some (Done fate)) → IsDoneBy marks number
 done_known marks files number fate shows = by_test (is_decided number marks) refl shows where
   by_test : (decided : Bool) → is_decided number marks ≡ decided → MatchBool decided (ShowsDone marks number (Some (Done fate))) (ShowsLive marks files number (Some (Done fate))) → IsDoneBy marks number
@@ -69,7 +69,7 @@ done_known marks files number fate shows = by_test (is_decided number marks) ref
       let impossible : Live (job_of file) (state_since (started_at file.job.number marks)) ≡ Done fate = ap (λ (row : ℕ × JobEntry). row.1) shown in
       cc
 
--- what a state tells of the start
+-- what a state says of the start
 pub not_started : (since : Option ℤ) → state_since since ≡ Pending → since ≡ None
 not_started None is = refl
 not_started (Some second) is = cc

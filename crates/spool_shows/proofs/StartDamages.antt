@@ -111,7 +111,7 @@ module _ (marks : List Mark) (files : Files) where
       subst (λ (of : Mark). mark_damage marks (files_that_count marks files) place of ≡ Some damage) (sym (same_mark place number queue mark there is))
       (ap (undecided_damage place queue (file_of number (files_that_count marks files))) is.undecided ∙ start_damaged once place number queue damage damaged)
 
-  -- these marks stand from the place on
+  -- these marks are there from the place on
   abbrev StandFrom : ℕ → List Mark → Type 0
   StandFrom place list = (at : ℕ) → slice_get list at ≡ slice_get marks (place + at)
 

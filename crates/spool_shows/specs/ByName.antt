@@ -33,7 +33,7 @@ pub record HasFile (marks : List Mark) (files : Files) (number queue : ℕ) : Ty
   pub queue_is : file.job.queue ≡ queue
 
 -- Each file of a job is whole, no number has two of them, and each number that is started and not
--- decided has one, in the queue of its start.
+-- finished has one, in the queue of its start.
 pub record AreSound (last : ℕ) (marks : List Mark) (files : Files) : Type 0 where
   pub each : (file : JobFile) → IsJobFile marks files file → IsWholeFile last file
   pub once : (first second : JobFile) → IsJobFile marks files first → IsJobFile marks files second →

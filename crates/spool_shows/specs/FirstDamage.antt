@@ -25,7 +25,7 @@ pub record ReadAs (files : Files) (last : ℕ) (marks : List Mark) : Type 0 wher
 
 -- Files of jobs. The marks are those of the journal.
 
--- the one file stands before the other, by their names
+-- the one file comes before the other, by their names
 abbrev pub IsEarlierName : JobFile → JobFile → Type 0
 IsEarlierName one other = name_cmp one.name other.name ≡ Less
 

@@ -81,7 +81,7 @@ module _ (old_form : List ℕ) (journal room : JournalRead) (table : JobTable) (
       adding.adds
       (λ image changing. stepping image (leaves_through (IsEither temporary_file journal_file) start middle image journal_is_spool through changing.alone) changing)
 
-  -- once the mark is added it stands
+  -- once the mark is added it counts
   is_kept : IsChanged (added room mark) middle third.now.directory → IsMarkDurable journal.marks (added room mark) third.now.directory (after_step table step)
   is_kept changed =
       let each : (image : Files) → IsImage third.now.directory image → IsChanging room (added room mark) middle image =

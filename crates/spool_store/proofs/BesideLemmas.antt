@@ -24,7 +24,7 @@ use Rattle.spool_store.specs.Beside.{ClearingsBesideShowTheSame, IsNoSpoolName, 
 abbrev pub AreBeside : (List ℕ → Type 0) → Type 0
 AreBeside may_change = (name : List ℕ) → may_change name → IsNoSpoolName name
 
--- a name that tests tell from each of the store's
+-- a name that tests distinguish from each of the store's
 pub beside_by : (name : List ℕ) → bytes_eq name sequence_file ≡ false → bytes_eq name journal_file ≡ false → bytes_eq name temporary_file ≡ false
     → is_some (job_named name) ≡ false → IsNoSpoolName name
 beside_by name sequence journal temporary none (inl is) = differ_by name sequence_file sequence is

@@ -105,7 +105,7 @@ is_the_one name = contained (name ∷ []) name (inl refl)
 pub apart_from : (name other : List ℕ) → ¬ (other ≡ name) → ¬ (Contains (name ∷ []) other)
 apart_from name other differ is = differ (only_one name other is)
 
--- it is a file still, once the mark stands
+-- it is a file still, once the mark is written
 pub decided_held : (old_form : List ℕ) (journal : JournalRead) (first second : Directory) (table : JobTable) (step : Step) (mark : Mark) (name : List ℕ) → IsDecisionOf old_form journal first table step mark name → KeepsFiles first second → AreFiles (name ∷ []) (reading_of second)
 decided_held old_form journal first second table step mark name decision keeps =
     let file : IsItsFile journal.marks (reading_of first) decision.number name = decided_file old_form journal first table step mark name decision in

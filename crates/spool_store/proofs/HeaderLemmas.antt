@@ -1,4 +1,4 @@
--- The first bytes of a live job's file tell its header.
+-- The first bytes of a live job's file give its header.
 use Rattle.std.proofs.Common.{◌≡◌, ℕ, Bool, List, take, drop, sym, ap, ◌∙◌}
 use Rattle.std.specs.Prelude.{Some, option_map}
 use Rattle.host_calls.specs.Directory.{Directory, reading_of}

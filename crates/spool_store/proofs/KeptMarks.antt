@@ -1,4 +1,4 @@
--- What a compaction keeps of what legal marks tell: which of them are drawn, and which may follow.
+-- What a compaction keeps of what legal marks say: which of them are drawn, and which may follow.
 use Rattle.std.proofs.Common.{◌≡◌, ℕ, ℤ, Bool, true, false, cond, List, [], ◌∷◌, sym, ap, subst, ◌∙◌, refl}
 use Rattle.std.specs.Prelude.{◌&&◌, Option, Some, None}
 use Rattle.std.specs.List.{filter, list_all, list_any}

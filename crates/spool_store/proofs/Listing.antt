@@ -134,7 +134,7 @@ module _ (last : ℕ) (rows : List Row) (decided : List Decided) (last_batch : O
   pub row_is_live : (number : ℕ) (entry : JobEntry) → entry_under (map row_entry rows) number ≡ Some entry → entry_at table number ≡ Some entry
   row_is_live number entry found = in_table number ∙ ap (λ held. or_else held (entry_under (map decided_entry decided) number)) found
 
-  -- a number that is done is a decided one, and has no row
+  -- a number that is done is a finished one, and has no row
   pub done_is_decided : (number : ℕ) (fate : Fate) → entry_at table number ≡ Some (Done fate) → (entry_under (map row_entry rows) number ≡ None) × (entry_under (map decided_entry decided) number ≡ Some (Done fate))
   done_is_decided number fate held = by_scanned (entry_under (map row_entry rows) number) refl (sym (in_table number) ∙ held) where
     by_scanned : (found : Option JobEntry) → entry_under (map row_entry rows) number ≡ found → or_else found (entry_under (map decided_entry decided) number) ≡ Some (Done fate) → (found ≡ None) × (entry_under (map decided_entry decided) number ≡ Some (Done fate))

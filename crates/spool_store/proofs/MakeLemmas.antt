@@ -37,7 +37,7 @@ pub changes_made : {X : Type 0} (make : X → Step) (xs : List X) → ((x : X) �
 changes_made make [] each = tt
 changes_made make (x ∷ xs) each = (each x, changes_made make xs each)
 
--- steps that were made, and those that may stand too, are a prefix of all
+-- steps that were made, and those that may have taken effect too, are a prefix of all
 pub made_prefix : {X : Type 0} (steps : List X) (made begun : ℕ) → (beyond : List X) × (steps ≡ (take made steps ++ take begun (drop made steps)) ++ beyond)
 made_prefix {X} steps made begun = (
   drop begun (drop made steps),

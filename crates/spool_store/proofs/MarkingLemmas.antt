@@ -80,7 +80,7 @@ pub record IsShownWith (journal : JournalRead) (table : JobTable) (files : Files
   pub shows : Shows files table
   pub gives : GivesReadJournal (map.get files journal_file) journal
 
--- so what it shows by its names is told by the marks of that journal
+-- so what it shows by its names is known by the marks of that journal
 pub reads_as : (journal : JournalRead) (table : JobTable) (files : Files) (is : IsShownWith journal table files) → (by_name files table is.shows).read ≡ journal
 reads_as journal table files is =
     let shows : ShowsByName files table = by_name files table is.shows in

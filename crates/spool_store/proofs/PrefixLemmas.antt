@@ -1,4 +1,4 @@
--- What a scan has of files tells of them what the whole files do.
+-- What a scan has of files says of them what the whole files do.
 use Rattle.std.proofs.Common.{◌≡◌, ℕ, ◌+◌, Bool, true, false, cond, List, Option, Some, None, [], ◌∷◌, ◌++◌, map, sym, ap, ◌∙◌, refl}
 use Rattle.std.specs.Prelude.{◌==◌, option_map}
 use Rattle.std.specs.List.{filter_map}

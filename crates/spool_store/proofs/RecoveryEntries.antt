@@ -1,4 +1,4 @@
--- What a scan has found is what a store keeps: a sound table, and marks that tell of the same jobs.
+-- What a scan has found is what a store keeps: a sound table, and marks that say the same of jobs.
 use Rattle.std.proofs.Common.{◌≡◌, ℕ, ℤ, ◌≤◌, Bool, true, false, cond, List, Option, Some, None, [], ◌∷◌, sym, ap, subst, ◌∙◌, refl}
 use Rattle.std.specs.Prelude.{◌==◌, IfSome, IsSome, IsTrue, not, is_some, option_map}
 use Rattle.std.specs.Option.{option_or}
@@ -126,7 +126,7 @@ abbrev entry_of : List Mark → Option JobFile → Option Fate → Option JobEnt
 entry_of marks found given = option_map entry_without_script (option_or (option_map (λ file. (live_entry marks file).1) found) (option_map Done given))
 
 module _ (last : ℕ) (marks : List Mark) (files : List JobFile) (scanned : HasScanned last marks files) where
-  -- the marks tell of the job of a file
+  -- the marks say of the job of a file
   live_by : (file : JobFile) → Has files file → IsLiveBy marks file.job.number (job_without_script (job_of file)) (state_since (started_at file.job.number marks))
   live_by file has = record {
     named = record { letter = (scanned.named file has).letter; in_calendar = (scanned.named file has).in_calendar };

@@ -63,7 +63,7 @@ module _ (last : ℕ) (marks : List Mark) (files : Files) (sound : AreSound last
         old_form = kept.1;
       }
 
-  -- so the form of a file's name is told by its number
+  -- so the form of a file's name is known by its number
   form_known : (file : JobFile) → IsJobFile marks files file → file.job.new_form ≡ is_new_form numbers file.job.number
   form_known file is = by_form file.job.new_form refl where
     by_number : (new_form : Bool) → is_new_form numbers file.job.number ≡ new_form → file.job.new_form ≡ true → true ≡ is_new_form numbers file.job.number

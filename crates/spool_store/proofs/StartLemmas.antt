@@ -24,7 +24,7 @@ use Rattle.spool_store.specs.Rows.{row_entry}
 use Rattle.spool_store.specs.inside.JobRows.{ListsRows, rows_by_number, row_of}
 use Rattle.spool_store.proofs.TableLemmas.{find_rows, rows_keyed, unnumbered}
 
--- what is kept of a number tells whether it is finished
+-- what is kept of a number says whether it is finished
 pub life_decides : (marks : List Mark) (lives : Lifecycles) (number : ℕ) (life : Lifecycle) (test : Bool) → TellLifecycles marks lives → life ≡ lifecycle_in lives number → is_some life.fate ≡ test → is_decided number marks ≡ test
 life_decides marks lives number life test tells is fated =
     decided_has_fate number marks ∙ ap (λ (l : Lifecycle). is_some l.fate) (sym (is ∙ tells.1 number)) ∙ fated
@@ -39,7 +39,7 @@ start_open marks files place number queue second is = sym (ap (λ b. cond b None
 abbrev file_entry : List Mark → Option JobFile → Option JobEntry
 file_entry marks found = option_map (λ (row : Row). (row_entry row).1) (option_map (row_of marks) found)
 
--- rows tell the entries of their files
+-- rows give the entries of their files
 pub rows_tell : (marks : List Mark) (files : List JobFile) (rows : List Row) (number : ℕ) → ListsRows marks files rows → entry_under (map row_entry rows) number ≡ file_entry marks (file_of number files)
 rows_tell marks files rows number lists =
     ap (λ list. entry_under (map row_entry list) number) (sym (unnumbered rows))

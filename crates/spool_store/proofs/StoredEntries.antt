@@ -1,4 +1,4 @@
--- What marks tell of an entry is told by what a compaction keeps of them, and by one more mark of another number.
+-- What marks say of an entry is known by what a compaction keeps of them, and by one more mark of another number.
 use Rattle.std.proofs.Common.{◌≡◌, ℕ, Bool, false, not, List, [], ◌∷◌, ◌++◌, ap, ◌∙◌}
 use Rattle.std.specs.Prelude.{◌&&◌, Option, Some, None}
 use Rattle.std.specs.List.{list_any}
@@ -12,7 +12,7 @@ use Rattle.start_journal.proofs.MarkLemmas.{decides_names, forgets_names, kept_m
 use Rattle.spool_store.specs.Stored.{IsEntryBy}
 use Rattle.spool_store.proofs.KeptMarks.{IsNarrower, unnamed_kept}
 
--- the marks tell of the number's entry alike
+-- the marks say of the number's entry alike
 pub record TellAlike (number : ℕ) (one other : List Mark) : Type 0 where
   pub named : has_mark_of number one ≡ false → has_mark_of number other ≡ false
   pub opened : is_open number other ≡ is_open number one

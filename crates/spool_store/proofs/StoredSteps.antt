@@ -40,7 +40,7 @@ use Rattle.spool_store.proofs.StoredEntries.{entry_alike, kept_alike, other_alik
 abbrev kept_then : Kept → JobTable → JournalRead → Kept
 kept_then kept table journal = record { table = table; journal = journal; old_form = kept.old_form }
 
--- The mark names the number of the step alone, and with it the marks tell of the number's new entry. All other
+-- The mark names the number of the step alone, and with it the marks say of the number's new entry. All other
 -- entries stay, and the second of the last batch start is in the clock's range.
 record IsStepAt (table : JobTable) (marks : List Mark) (step : Step) (mark : Mark) (number : ℕ) : Type 0 where
   unchecked : (other : ℕ) → ¬ (other ≡ number) → is_mark_of other mark ≡ false
@@ -84,7 +84,7 @@ module _ (kept : Kept) (is : IsStored kept) where
   abbrev marks : List Mark
   marks = kept.journal.marks
 
-  -- an entry under its number, told by the marks
+  -- an entry under its number, known by the marks
   entry_by : (number : ℕ) (entry : JobEntry) → entry_at table number ≡ Some entry → IsEntryBy marks number (Some entry)
   entry_by number entry held = subst (IsEntryBy marks number) held (is.entries number)
 
@@ -92,7 +92,7 @@ module _ (kept : Kept) (is : IsStored kept) where
   number_drawn : (number : ℕ) (entry : JobEntry) → entry_at table number ≡ Some entry → nat_le number table.last ≡ true
   number_drawn number entry held = drawn_is number table.last (is.sound.each number (rw held refl)).drawn
 
-  -- the marks tell of the state of a live job
+  -- the marks say of the state of a live job
   state_by : (number : ℕ) (job : Job) (state : JobState) → entry_at table number ≡ Some (Live job state) → IsStateBy marks number state
   state_by number job state held = let entry : IsLiveBy marks number job state = entry_by number (Live job state) held in entry.state_by
 

@@ -33,7 +33,7 @@ pub record MayMakeSteps (tells : Bool) (session : Session) (world : World) (kept
   pub changes : AreChanges steps
   pub current : tells ≡ true → (table : JobTable) × IsCurrent kept world.now.directory table
 
--- what is left where so many of the steps were made: all of them, or so many more of them may stand too
+-- what is left where so many of the steps were made: all of them, or so many more of them may have taken effect too
 abbrev pub MakingEnds : JobTable → List Step → ℕ → ℕ → World → World → Result Kept StoreFault → Type 0
 MakingEnds table steps made begun old new (Ok kept) = AreMade table steps [] [] kept old new
 MakingEnds table steps made begun old new (Err fault) = AreStopped table (take made steps) (take begun (drop made steps)) [] [] old new

@@ -30,13 +30,13 @@ abbrev pub IsStateBy : List Mark → ℕ → State → Type 0
 IsStateBy marks number Pending = has_mark_of number marks ≡ false
 IsStateBy marks number (Running second) = is_open number marks ≡ true
 
--- a live job can have a file, and the marks tell of its state
+-- a live job can have a file, and the marks say of its state
 pub record IsLiveBy (marks : List Mark) (number : ℕ) (job : Job) (state : State) : Type 0 where
   pub named : CanBeNamed job.queue job.minute
   pub since : RunsSince state
   pub state_by : IsStateBy marks number state
 
--- the marks tell of the number's entry: those of a job that is done decide it, and do not forget it
+-- the marks say of the number's entry: those of a job that is done decide it, and do not forget it
 abbrev pub IsEntryBy : List Mark → ℕ → Option JobEntry → Type 0
 IsEntryBy marks number None = Unit {0}
 IsEntryBy marks number (Some (Live job state)) = IsLiveBy marks number job state

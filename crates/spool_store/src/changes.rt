@@ -8,7 +8,8 @@ use spool_model::Step;
 use std::alloc::Global;
 
 impl Store {
-    /// Makes the steps, in order, and counts those that stand. Each takes a job back, ends it, gives it up or forgets it.
+    /// Makes the steps, in order, and counts those that took effect. Each takes a job back, ends it, gives it up or
+    /// forgets it.
     pub fn make_all<H: Host>(
         self,
         alloc: Global,

@@ -67,7 +67,7 @@ fn add_row(rows: &mut Vec<Row>, row: Row) -> Result<(), AllocError>
     Ok(())
 }
 
-// The same in whatever order the numbers stand.
+// The same in whatever order the numbers come.
 fn sorted_rows(
     alloc: Global,
     last: u32,
@@ -110,7 +110,7 @@ fn rows_of_files(
     Ok(rows)
 }
 
-// The row of a file, or its damage. Whether a file before it has its number is told.
+// The row of a file, or its damage. Whether a file before it has its number is reported.
 fn row_of(last: u32, is_taken: bool, lives: &Lifecycles, file: &ScannedJob) -> Result<Row, Damage>
     ensures { (before : List ℕ) (marks : List Mark) → IsTaken before file.now.job.number is_taken
         → TellLifecycles marks lives.now → IsRowOrDamage last before marks (file_scanned file.now) result }

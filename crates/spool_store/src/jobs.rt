@@ -19,7 +19,7 @@ use spool_model::{Decided, Fate, Row, is_batch};
 use std::alloc::{AllocError, Global};
 use std::marker::Model;
 
-// The job table without scripts: the last number, the rows of the live jobs and the decided
+// The job table without scripts: the last number, the rows of the live jobs and the finished
 // numbers, both in the order of their numbers, and the second of the last batch start. The lines are
 // those of the rows that are pending.
 #[derive(Drop)]

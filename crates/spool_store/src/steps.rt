@@ -117,7 +117,7 @@ impl Store {
     }
 }
 
-// The mark that tells of this fate of the number.
+// The mark of this fate of the number.
 fn decision_mark(number: u32, fate: Fate) -> Mark
     ensures { result ≡ decision_mark number fate }
 {

@@ -15,7 +15,7 @@ use spool_model::{Decided, Row};
 use start_journal::Journal;
 use std::marker::Model;
 
-/// The jobs of a spool directory as they stood at the last call: seen as the job table without scripts, the
+/// The jobs of a spool directory as they were at the last call: seen as the job table without scripts, the
 /// journal, and the numbers whose files have names of the old form.
 ///
 /// A store is current on a host where each image shows its table. Each call that changes the directory takes

@@ -7,7 +7,7 @@ use std::test::Fail;
 
 const HEADER: &[u8] = b"#!/bin/sh\n# at user=ann mail=0\n";
 
-// So many bytes of commands stand after the header.
+// So many bytes of commands come after the header.
 const COMMANDS: usize = 1_048_576;
 
 // How often the file of job 1 is read in a recovery, and how many bytes one read requests at most.

@@ -1,7 +1,7 @@
 //! Tests of the files of a spool and of the store; a compaction stopped at each host call.
 //!
 //! What is proved of every crash is in the crates of the calls; crashes of a submission, of a removal and of a
-//! turn, and what directories show, stand as scenarios.
+//! turn, and what directories show, are scenarios.
 #![tactic(auto)]
 
 #[cfg(test)]

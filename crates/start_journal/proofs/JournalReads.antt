@@ -47,7 +47,7 @@ open_again : (last : ℕ) (read next : JournalRead) (mark : Mark) (prefix : ℕ)
 open_again last read next mark prefix added =
     ap (λ b. given_if b (with_mark read mark)) (and_from (is_legal_after read.marks mark) (is_drawn last mark) added.legal added.drawn) ∙ ap Ok (sym added.is)
 
--- what a slot gives, by its gate, by whether a closed one stands before it, and by its mark
+-- what a slot gives, by its gate, by whether a closed one comes before it, and by its mark
 abbrev slot_by : ℕ → JournalRead → Bool → Bool → Option Mark → ℕ → Result JournalRead ℕ
 slot_by last read gate first found prefix =
     if gate then (if first then open_slot last read found prefix else Err 0) else Ok (with_free read)

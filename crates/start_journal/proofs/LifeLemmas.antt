@@ -67,7 +67,7 @@ named_is number (Interrupted own) is = let same : own ≡ number = cc in eq-eqb 
 named_is number (Forgotten own) is = let same : own ≡ number = cc in eq-eqb own number same
 named_is number (Batch second) is = cc
 
--- A number is named where it is forgotten, decided or started.
+-- A number is named where it is forgotten, finished or started.
 
 names_by : (number : ℕ) (mark : Mark) → is_mark_of number mark ≡ (is_forgetting number mark || (decides number mark || is_start_of number mark))
 names_by number (Removed other) = sym (or_false (other == number))
@@ -97,7 +97,7 @@ unnamed_none number marks unnamed =
     let more = or_parts (is_decided number marks) (has_start_of number marks) parts.1 in
     (parts.0, more.0, more.1)
 
--- A number is ended where it is started and decided.
+-- A number is ended where it is started and finished.
 
 abbrev EndsStarted : ℕ → List Mark → Type 0
 EndsStarted number marks = is_ended number marks ≡ (has_start_of number marks && is_decided number marks)

@@ -143,7 +143,7 @@ decided_next first place entries row other old new inside before is =
     ∙ ap (λ rest. filter_map decided_of (entries ++ rest)) (sym (numbered_next first place row other inside))
     ∙ ap (λ n. filter_map decided_of (entries ++ lives_by_number first (take n row))) more
 
--- What is told.
+-- What is known.
 
 -- what a slice gives at a place
 pub given_at : (given : Option (Bor Lifecycle)) (row : List Lifecycle) (place : ℕ) → IsItemAt row place given → option_copied given ≡ slice_get row place

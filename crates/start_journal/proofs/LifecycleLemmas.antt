@@ -1,4 +1,4 @@
--- What marks tell of a number, by their tests, and with one more mark.
+-- What marks say of a number, by their tests, and with one more mark.
 use Rattle.std.proofs.Common.{◌≡◌, ℕ, Bool, true, false, cond, List, Option, Some, None, [], ◌∷◌, ◌++◌, sym, ap, subst, ◌∙◌, refl}
 use Rattle.std.specs.Prelude.{◌==◌, ◌||◌, is_some}
 use Rattle.std.specs.Option.{option_or}
@@ -42,7 +42,7 @@ life_more : (number : ℕ) (before : List Mark) (mark : Mark) → lifecycle_at n
 life_more number before mark =
     same_life _ _ (started_more number before mark) (fate_more number before mark) (any_more (is_forgetting number) before mark)
 
--- what is told with a legal mark more
+-- what is known with a legal mark more
 pub told_more : (marks more : List Mark) (old new : Lifecycles) (mark : Mark) → more ≡ marks ++ mark ∷ [] → ((number : ℕ) → lifecycle_in new number ≡ lifecycle_with number mark (lifecycle_in old number))
     → TellLifecycles marks old → IsLegalAfter marks mark → TellLifecycles more new
 told_more marks more old new mark is adds tell legal =

@@ -118,7 +118,7 @@ test_gone marks number test of_number is =
     ∙ or_false (list_any test (filter (is_kept marks) marks))
     ∙ test_forgotten marks marks number test of_number is
 
--- a mark that forgets a number stands after one that decides it
+-- a mark that forgets a number comes after one that finishes it
 pub decided_before : (number : ℕ) (before : List Mark) (mark : Mark) → IsLegalAfter before mark → is_forgetting number mark ≡ true → is_decided number before ≡ true
 decided_before number before (Forgotten other) legal is = subst (λ n. is_decided n before ≡ true) (eqb-true other number is) legal.0
 decided_before number before _ legal is = cc
@@ -158,7 +158,7 @@ batch_at_end : (list : List Mark) (second : ℤ) → last_batch (list ++ Batch s
 batch_at_end [] second = refl
 batch_at_end (mark ∷ later) second = ap (λ last. first_of_two last (batch_second mark)) (batch_at_end later second)
 
--- where there is no batch start, neither of two tells one
+-- where there is no batch start, neither of two says one
 no_first : (one other : Option ℤ) → first_of_two one other ≡ None → (one ≡ None) × (other ≡ None)
 no_first (Some second) other is = cc
 no_first None other is = (refl, is)

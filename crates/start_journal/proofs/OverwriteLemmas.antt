@@ -92,7 +92,7 @@ module _ (name : List ℕ) (offset : ℕ) (bytes : List ℕ) (directory : Direct
 
 -- A file that is synced.
 
--- what a certain body may hold, the body before its sync may hold too
+-- what a synced body may hold, the body before its sync may hold too
 before_sync : (body : Body) (found : List ℕ) → IsSameElsewhere (durable_body body) found → MayHold body found
 before_sync body found same = by_sync body.is_synced refl where
   by_sync : (synced : Bool) → body.is_synced ≡ synced → MayHold body found
@@ -104,7 +104,7 @@ module _ (directory : Directory) (number : ℕ) where
   abbrev synced_bodies : ℕ → Body
   synced_bodies = with_body directory.body number (durable_body (directory.body number))
 
-  -- what may stand after a sync might have stood before it
+  -- what is allowed after a sync was allowed before it
   holds_before : (held : Option ℕ) (holds : Option (List ℕ)) → MayHoldAt synced_bodies held holds → MayHoldAt directory.body held holds
   holds_before None holds is = is
   holds_before (Some held) None is = is

@@ -18,7 +18,7 @@ use Rattle.text_reader.proofs.ValueLemmas.{value_last, some_power}
 use Rattle.start_journal.proofs.WholeLemmas.{parts_of, all_spelled, SpellsSome, AllStand}
 use Rattle.host_calls.specs.declared.clock_seconds.TheConstants.{LAST_SECOND}
 
--- a byte that may stand after the others
+-- a allowed byte after the others
 next_byte : List ℕ → ℕ
 next_byte slot =
     if length slot == 0 then 43 else if length slot == 1 then 82
@@ -154,7 +154,7 @@ second_before slot each from to = elim (eq-or-lt_of_le from) [
       inr (ap (is_second_prefix (slice_index slot 1)) (sym (part_whole slot 14 place at)) ∙ sym (second_part slot place (omega arith) (omega arith)) ∙ each place (omega arith))
 ]
 
--- the byte that comes next may stand
+-- the byte that comes next is allowed
 queue_next : (kind : ℕ) → is_queue_of kind (if kind == 83 then 97 else 45) ≡ true
 queue_next kind = by_kind (kind == 83) refl where
   by_kind : (start : Bool) → (kind == 83) ≡ start → is_queue_of kind (if kind == 83 then 97 else 45) ≡ true
@@ -234,7 +234,7 @@ all_next slot each few place inside =
       | inr before ↦ same_stand (slot ++ next_byte slot ∷ []) slot place (take-append-le (place + 1) slot (next_byte slot ∷ []) (omega arith)) ∙ each place before
     ]
 
--- bytes that may stand, up to a whole slot
+-- allowed bytes, up to a whole slot
 record IsCompleted (slot : List ℕ) : Type 0 where
   right : List ℕ
   counted : length right ≡ 32

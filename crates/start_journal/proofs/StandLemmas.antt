@@ -40,7 +40,7 @@ pub if_true : (b x y : Bool) → (b ≡ true → x ≡ true) → (b ≡ false �
 if_true true x y on off = on refl
 if_true false x y on off = off refl
 
--- a byte may stand by what is before it and itself
+-- a byte is allowed by what is before it and itself
 pub same_stand : (one other : List ℕ) (place : ℕ) → take (place + 1) one ≡ take (place + 1) other → may_stand one place ≡ may_stand other place
 unfolding may_stand
 same_stand one other place same =
@@ -138,7 +138,7 @@ second_right (Interrupted number) digits count writable spelled counted few = ta
 second_right (Forgotten number) digits count writable spelled counted few = take_passes (λ byte. byte == 48) digits count (zeros_of digits spelled)
 second_right (Batch second) digits count writable spelled counted few = second_prefix digits (unsigned_abs second) count spelled (second_small (Batch second) writable) counted few
 
--- each byte of a mark's slot may stand
+-- each byte of a mark's slot is allowed
 pub part_prefix : (slot : List ℕ) (from to place : ℕ) → place ≤ to → slice_range slot from place ≡ take (place - from) (slice_range slot from to)
 part_prefix slot from to place inside = sym (take-take (place - from) (to - from) (drop from slot) (omega arith))
 

@@ -1,4 +1,4 @@
--- A slot of which each byte may stand spells a mark.
+-- A slot of which each byte is allowed spells a mark.
 use Rattle.std.proofs.Common.{◌≡◌, ℕ, pos, ◌-◌, ◌/◌, ◌^◌, ◌<◌, ◌≤◌, Bool, true, false, List, length, sym, ap, subst, ◌∙◌, refl, inl, inr, arith}
 use Rattle.std.specs.Prelude.{unsigned_abs, ◌==◌, ◌&&◌, ◌||◌, nat_le, nat_lt, slice_index, slice_range, if◌then◌else◌}
 use Rattle.std.specs.Char.{is_ascii_alphabetic}
@@ -21,7 +21,7 @@ use Rattle.text_reader.proofs.ValueLemmas.{digits_spell, spelled_zero}
 use Rattle.start_journal.proofs.StandLemmas.{part_long, part_byte}
 use Rattle.host_calls.specs.declared.clock_seconds.TheConstants.{LAST_SECOND}
 
--- a slot of which each byte may stand
+-- a slot of which each byte is allowed
 abbrev pub AllStand : List ℕ → Type 0
 AllStand slot = (place : ℕ) → place < length slot → may_stand slot place ≡ true
 
@@ -206,7 +206,7 @@ interrupted_slot slot parts is = let plain = plain_slot slot 73 parts is refl re
 pub forgotten_slot : (slot : List ℕ) → HasParts slot → slice_index slot 1 ≡ 70 → SpellsSome slot
 forgotten_slot slot parts is = let plain = plain_slot slot 70 parts is refl refl refl in record { mark = Forgotten (value_of_digits (slice_range slot 2 10)); spelled = record { writable = plain.1; fields = plain.0 } }
 
--- a slot of which each byte may stand spells a mark
+-- a slot of which each byte is allowed spells a mark
 pub all_spelled : (slot : List ℕ) → HasParts slot → SpellsSome slot
 all_spelled slot parts =
     let kind : ℕ = slice_index slot 1 in

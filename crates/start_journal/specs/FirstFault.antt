@@ -29,7 +29,7 @@ pub record IsRightBefore (last : ℕ) (bytes : List ℕ) (place : ℕ) (marks : 
 
 -- Why the open slot at a place is wrong, after slots of which the first spell these marks, and where in it.
 pub data IsWrong (last : ℕ) (marks : List Mark) (place : ℕ) (slot : List ℕ) (offset : ℕ) : Type 0 where
-  -- a closed slot stands before it: at its gate
+  -- a closed slot comes before it: at its gate
   after_closed : length marks < place → offset ≡ 0 → IsWrong last marks place slot offset
   -- it spells no mark: after the longest prefix that some mark's slot has too
   misspelled : length marks ≡ place → ((mark : Mark) → ¬ SpellsMark slot mark) → IsLongestPrefix slot offset

@@ -1,4 +1,4 @@
--- What marks tell of each number (own): its start, its fate, and whether it was forgotten.
+-- What marks say of each number (own): its start, its fate, and whether it was forgotten.
 use Rattle.std.specs.Prelude.{◌≡◌, ◌==◌, ◌||◌, [], ◌∷◌, ℕ, false, List, Option, Some, None, is_some, option_map, unwrap_or, if◌then◌else◌}
 use Rattle.std.specs.BTreeMap.{is_at}
 use Rattle.std.specs.Map.{lookup}
@@ -29,7 +29,7 @@ abbrev pub fate_at : ℕ → List Mark → Option Fate
 fate_at number [] = None
 fate_at number (mark ∷ later) = option_or (fate_given number mark) (fate_at number later)
 
--- what the marks tell of the number
+-- what the marks say of the number
 abbrev pub lifecycle_at : ℕ → List Mark → Lifecycle
 lifecycle_at number marks = record {
   started = started_at number marks;
@@ -37,7 +37,7 @@ lifecycle_at number marks = record {
   forgotten = is_forgotten number marks;
 }
 
--- a life, with what one more mark tells of its number
+-- a life, with what one more mark says of its number
 abbrev pub lifecycle_with : ℕ → Mark → Lifecycle → Lifecycle
 lifecycle_with number mark life = record {
   started = option_or life.started (start_second number mark);
@@ -45,7 +45,7 @@ lifecycle_with number mark life = record {
   forgotten = life.forgotten || is_forgetting number mark;
 }
 
--- a life of which nothing is told
+-- a life of which nothing is known
 abbrev pub unknown : Lifecycle
 unknown = record { started = None; fate = None; forgotten = false }
 

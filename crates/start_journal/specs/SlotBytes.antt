@@ -93,7 +93,7 @@ may_stand slot place =
     else if nat_lt place 30 then is_second_prefix (slice_index slot 1) (slice_range slot 14 (place + 1))
     else if place == 30 then slice_index slot 30 == 46 else (place == 31 && slice_index slot 31 == 10)
 
--- how many of the bytes may stand, from a place on, if those before it do
+-- how many of the bytes are allowed, from a place on, if those before it do
 abbrev pub standing_from : List ℕ → ℕ → List ℕ → ℕ
 standing_from slot place [] = place
 standing_from slot place (byte ∷ later) = if may_stand slot place then standing_from slot (suc place) later else place

@@ -29,7 +29,7 @@ abbrev pub AreAllowedFrom : Stage → List Mark → Type 0
 AreAllowedFrom stage [] = Unit {0}
 AreAllowedFrom stage (mark ∷ later) = IsTrue (allows stage mark) × AreAllowedFrom (stage_after stage mark) later
 
--- the stage of a number that is forgotten, decided or started, or none of these
+-- the stage of a number that is forgotten, finished or started, or none of these
 abbrev pub stage_by : Bool → Bool → Bool → Stage
 stage_by true decided started = Gone
 stage_by false true started = Closed

@@ -21,7 +21,7 @@ pub fn gate_damage(place: u64) -> Damage
     }
 }
 
-/// The damage at the queue in the slot of this place, where that queue stands.
+/// The damage at the queue in the slot of this place, where that queue is.
 pub fn queue_damage(place: u64, queue: u8) -> Damage
     requires { 32 * place + 10 < 2 ^ 64 }
     ensures { result ≡ queue_damage place queue }

@@ -85,7 +85,7 @@ impl LifeMap {
     }
 }
 
-// Puts the life at the place of the row, which is filled up to it with lives of which nothing is told.
+// Puts the life at the place of the row, which is filled up to it with lives of which nothing is known.
 fn put_in_row(row: &mut Vec<Lifecycle>, place: usize, life: Lifecycle) -> Result<(), AllocError>
     requires small { place < 2 ^ 32 }
     ensures told { OnOk result ((other : ℕ)

@@ -1,4 +1,4 @@
-//! What marks tell of each number.
+//! What marks say of each number.
 ghost use Rattle.std.specs.Prelude.{◌≡◌, [], ℕ, List, Some, IfOk, OnOk};
 ghost use Rattle.std.specs.List.{filter_map};
 ghost use Rattle.std.specs.List.Sorted.{IsStrictlySortedBy};
@@ -14,7 +14,7 @@ use crate::{Mark, Stage};
 use spool_model::{Decided, Fate};
 use std::alloc::{AllocError, Global};
 
-/// What marks tell of one number.
+/// What marks say of one number.
 #[derive(Clone, Copy)]
 pub struct Lifecycle {
     /// The second of its start.
@@ -24,7 +24,7 @@ pub struct Lifecycle {
 }
 
 impl Lifecycle {
-    /// Nothing is told.
+    /// Nothing is known.
     pub(crate) const UNMODELLED: Lifecycle = Lifecycle {
         started: None,
         fate: None,
@@ -67,14 +67,14 @@ impl Lifecycle {
     }
 }
 
-/// What marks tell, by the numbers that they name.
+/// What marks say, by the numbers that they name.
 #[derive(Drop)]
 pub struct Lifecycles {
     pub(crate) by_number: LifeMap,
 }
 
 impl Lifecycles {
-    // What no mark tells. Most marks that come are to name this number or later ones, and none a much later one.
+    // What no mark says. Most marks that come are to name this number or later ones, and none a much later one.
     pub(crate) fn new(alloc: Global, first: u32) -> Lifecycles
         ensures { TellLifecycles [] result }
     {
@@ -101,7 +101,7 @@ impl Lifecycles {
         self.by_number.decided(alloc)
     }
 
-    // Whether the mark may stand after those that tell this.
+    // Whether the mark is allowed after those that say this.
     pub(crate) fn allow(&self, mark: Mark) -> bool
         ensures { (marks : List Mark) → TellLifecycles marks self.now → result ≡ is_legal_after marks mark }
     {
@@ -121,7 +121,7 @@ impl Lifecycles {
         }
     }
 
-    // Puts what one more mark tells to what is told.
+    // Puts what one more mark says to what is known.
     pub(crate) fn add(&mut self, mark: Mark) -> Result<(), AllocError>
         ensures { OnOk result ((number : ℕ)
             → lifecycle_in self.new number ≡ lifecycle_with number mark (lifecycle_in self.old number)) }

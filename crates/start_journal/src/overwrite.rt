@@ -1,4 +1,4 @@
-//! Writing over a range of a file where it stands.
+//! Writing over a range of a file in place.
 ghost use Rattle.std.specs.Prelude.{◌≡◌, IsTrue, OnOk, length};
 ghost use Rattle.host_calls.specs.Session.{CallsInside, IsInside};
 ghost use Rattle.host_calls.specs.World.{IsWithinFile, reading};

@@ -34,7 +34,7 @@ impl Journal {
         Ok(journal)
     }
 
-    /// The journal of the directory, as `recall` answers it, and what its marks tell of each number.
+    /// The journal of the directory, as `recall` answers it, and what its marks say of each number.
     pub fn recall_with_lives<H: Host>(
         alloc: Global,
         host: &mut H,
@@ -63,7 +63,7 @@ impl Journal {
     }
 }
 
-// The journal that these bytes give and what its marks tell, or the place where they break its form.
+// The journal that these bytes give and what its marks say, or the place where they break its form.
 fn read_marks(alloc: Global, bytes: &[u8], last: u32) -> Result<(Journal, Lifecycles), JournalFault>
     ensures journal { IfOk result (λ read. journal_in last (Some bytes.now) ≡ Ok read.0) }
     ensures lives { IfOk result (λ read. TellLifecycles read.0.marks read.1) }
@@ -103,7 +103,7 @@ fn put_mark(marks: &mut Vec<Mark>, lives: &mut Lifecycles, mark: Mark) -> Result
     Ok(())
 }
 
-// The mark of a slot after marks that tell these lives and after free slots, `None` where its gate is
+// The mark of a slot after marks that give these lives and after free slots, `None` where its gate is
 // closed, or the place in the slot where it breaks the form of a journal.
 pub(crate) fn next(
     lives: &Lifecycles,

@@ -54,7 +54,7 @@ pub fn take(alloc: Global, bytes: &[u8], bound: u32) -> Result<Taken, AllocError
     Ok(Taken { marks, faults })
 }
 
-// The place of the fault of a slot, after marks that tell these lives and after free slots, if it has one.
+// The place of the fault of a slot, after marks that give these lives and after free slots, if it has one.
 fn slot_fault(lives: &Lifecycles, free: u64, slot: &[u8; SLOT], bound: u32) -> Option<usize>
     ensures few { IfSome result (λ place. place ≤ 32) }
     ensures fault { (marks : List Mark) → TellLifecycles marks lives.now
@@ -63,7 +63,7 @@ fn slot_fault(lives: &Lifecycles, free: u64, slot: &[u8; SLOT], bound: u32) -> O
     next(lives, free, slot, bound).err()
 }
 
-// The mark of a slot, where it is legal after marks that tell these lives.
+// The mark of a slot, where it is legal after marks that give these lives.
 fn legal_mark(lives: &Lifecycles, slot: &[u8; SLOT]) -> Option<Mark>
     ensures { (marks : List Mark) → TellLifecycles marks lives.now → result ≡ legal_mark marks (mark_in slot.now) }
 {

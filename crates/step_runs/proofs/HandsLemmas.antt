@@ -1,4 +1,4 @@
--- What steps hand over, one part of them after another.
+-- What steps start, one part of them after another.
 use Rattle.std.proofs.Common.{◌≡◌, List, [], ◌∷◌, ◌++◌, append_assoc, sym, ap, subst, ◌∙◌, refl, inl, inr}
 use Rattle.host_calls.specs.declared.child.Handed.{Handed}
 use Rattle.spool_model.specs.declared.step.Step.{Step}
@@ -21,7 +21,7 @@ prefix_longer prefix first later is = (is.0 ++ later, ap (λ (l : List Step). l 
 pub prefix_after : (first prefix later : List Step) → IsPrefix prefix later → IsPrefix (first ++ prefix) (first ++ later)
 prefix_after first prefix later is = (is.0, ap (λ (l : List Step). first ++ l) is.1 ∙ sym (append_assoc first prefix is.0))
 
--- what steps hand over, and what others after them do
+-- What steps start, and what others after them do
 pub hands_then : (table : JobTable) (first later : List Step) (given more : List Handed) → Hands table first given →
     Hands (after_steps table first) later more → Hands table (first ++ later) (given ++ more)
 hands_then table [] later given more before after = subst (λ (l : List Handed). Hands table later (l ++ more)) (sym before) after

@@ -41,7 +41,7 @@ along_longer table first later start image handed is = record {
   hands = is.hands;
 }
 
--- an image along later steps is along all, where the earlier ones stand and have started all
+-- an image along later steps is along all, where the earlier ones took effect and have started all
 along_after : (table : JobTable) (first later : List Step) (given : List Handed) (start middle : World) →
     RunsThrough table first given start middle → (image : Files) (handed : List Handed) →
     IsAlong (after_steps table first) later middle.now image handed → IsAlong table (first ++ later) start.now image handed
@@ -82,7 +82,7 @@ runs_go_through table first later given more start middle end before after = rec
   hands = hands_then table first later given more before.hands after.hands;
 }
 
--- the images of the start are along any steps: none of them stands yet
+-- the images of the start are along any steps: none of them has taken effect yet
 pub along_none : (table : JobTable) (steps : List Step) (start : Moment) → EachShows start.directory table →
     HasEachImage (IsAlong table steps start) start
 along_none table steps start shows image is = record {

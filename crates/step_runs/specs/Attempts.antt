@@ -38,12 +38,12 @@ pub record IsAchieved (table : JobTable) (steps : List Step) (old new : World) :
   pub whole : EachShows new.now.directory (after_steps table steps)
   pub others : KeepsOthers old.now.directory new.now.directory
 
--- An attempt at the steps that are those of the shown table: none was begun, or a prefix of them stands.
+-- An attempt at the steps that are those of the shown table: none was begun, or a prefix of them took effect.
 abbrev pub Attempts : (JobTable → List Step → Type 0) → World → World → Type 0
 Attempts AreSteps old new =
     IsUnbegun old new ⊎ ((table : JobTable) × (steps : List Step) × AreSteps table steps × IsBegun table steps old new)
 
--- an attempt that was made to its end: all of the steps stand
+-- an attempt that was made to its end: all of the steps took effect
 abbrev pub Achieves : (JobTable → List Step → Type 0) → World → World → Type 0
 Achieves AreSteps old new =
     (table : JobTable) × (steps : List Step) × AreSteps table steps × IsAchieved table steps old new

@@ -1,4 +1,4 @@
--- How a proof tells what one store keeps from what another does: by the parts that it is made of.
+-- How a proof distinguishes what one store keeps from what another does: by the parts that it is made of.
 use Rattle.std.specs.Prelude.{ℕ, List, refl}
 use Rattle.std.specs.Coded.{Coded, code_by, coded×, coded_ℕ, coded_list}
 use Rattle.spool_model.specs.Codes.{table_code}

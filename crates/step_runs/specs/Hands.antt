@@ -1,4 +1,4 @@
--- What steps of the job table hand over (own): the script of each start.
+-- What steps of the job table start (own): the script of each start.
 use Rattle.std.specs.Prelude.{◌≡◌, ◌⊎◌, ◌++◌, [], ◌∷◌, ℕ, ℤ, List, Some}
 use Rattle.host_calls.specs.declared.child.Handed.{Handed}
 use Rattle.queue_rules.specs.Queues.{niceness_of}
@@ -28,7 +28,7 @@ HandsOne table (End number ending) given = given ≡ []
 HandsOne table (Interrupt number) given = given ≡ []
 HandsOne table (Forget number) given = given ≡ []
 
--- what steps on a table hand over, one after the other
+-- what steps on a table start, one after the other
 abbrev pub Hands : JobTable → List Step → List Handed → Type 0
 Hands table [] given = given ≡ []
 Hands table (step ∷ later) given =
@@ -43,7 +43,7 @@ pub record LacksLast (table : JobTable) (steps : List Step) (given : List Handed
   pub ends : steps ≡ earlier ++ Start number second ∷ []
   pub hands : Hands table earlier given
 
--- What was started once these steps stand. A start stands before its script is started, so that of
+-- What was started once these steps took effect. A start takes effect before its script is started, so that of
 -- the last step may be missing.
 abbrev pub HandsByNow : JobTable → List Step → List Handed → Type 0
 HandsByNow table steps given = Hands table steps given ⊎ LacksLast table steps given

@@ -5,7 +5,7 @@
 //! 1. `WithoutScripts`: the job table as a store keeps it
 //! 2. `Current`: what a store keeps of a directory, and when that is current (`IsCurrent`); `Codes` tells stores apart
 //! 3. `Calls`: what a call of the store leaves, the table before it or after a prefix of its steps (`StoreCall`)
-//! 4. `Hands`: what steps hand over, the script of each start
+//! 4. `Hands`: what steps start, the script of each start
 //! 5. `Runs`: what a crash leaves at each moment of steps, and what was started by then
 //! 6. `Attempts`: a recovery, and then a run (`Attempts`, `Achieves`)
 //! 7. `Made`: calls one after another, made to their end, or stopped, or cut off (`AreMade`, `AreStopped`, `AreCutOff`)

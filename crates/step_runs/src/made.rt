@@ -10,7 +10,7 @@ pub fn steps_join()
 {}
 
 /// A call of the store that starts nothing has made its steps where it succeeds, and where it fails at one step
-/// that step may stand.
+/// that step may have taken effect.
 pub fn calls_make_steps()
     ensures made { CallsMakeTheirSteps }
     ensures stopped { CallsStopAtTheirStep }

@@ -43,7 +43,7 @@ abbrev pub PreparingEnds : Caller → Bool → Found → Check → Result Submis
 PreparingEnds caller mail found reached (Ok submission) = IsPrepared caller mail found reached submission
 PreparingEnds caller mail found reached (Err stopped) = IsStoppedEarly caller found reached stopped.cause
 
--- The checks of a submission, over what the clock answered and the inputs hold, where those are told.
+-- The checks of a submission, over what the clock answered and the inputs hold, where those are recorded.
 pub record Prepares (readings_tell inputs_tell : Bool) (caller : Caller) (mail : Bool) (file : Option (List ℕ)) (when : When)
     (before after : Answers) (contents : Contents) (result : Result Submission CommandError) : Type 0 where
   pub now : ℤ

@@ -1,4 +1,4 @@
-//! What is told from what, on examples.
+//! What is distinguished from what, on examples.
 ghost use Rattle.std.specs.Prelude.{◌≡◌, IfOk};
 
 use host_calls::Text;

@@ -38,7 +38,7 @@ unless : (test : Bool) (onward : Read) (other : Option Read) (tokens : List Toke
 unless true onward other tokens fails = cc
 unless false onward other tokens fails = refl
 
--- an increment, after all that may stand before one
+-- an increment, after all that may come before one
 increment_accepted : (at : Clock) (day : DatePart) (later : List Token) (by : Increment) → IsIncrement later by
     → accepts (read.Dated at day) later ≡ Some (timespec_of at day (Some by))
 increment_accepted at day _ _ (grammar.plus digits count period fits) =

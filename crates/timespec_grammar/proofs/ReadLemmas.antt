@@ -16,7 +16,7 @@ use Rattle.timespec_grammar.specs.Grammar.{IsClock24, IsClock12, IsHalf, IsTime,
 use Rattle.timespec_grammar.specs.Numbers.{is_hour, is_hour_minute, is_twelve, is_minute, is_month, is_month_number, is_weekday_number, is_day_number, is_year, is_date_number, is_count}
 use Rattle.timespec_grammar.specs.inside.Steps.{begin, after_colon, after_date, after_time, after_half, after_minute, after_hour, after_month, after_day, after_plus, after_count, year_due, after_number, after_slash, second_slash, after_dot, second_dot, after_dash, second_dash, day_due, step}
 
--- what may stand before an increment
+-- what may come before an increment
 pub data Opens : List Token → Clock → DatePart → Type 0 where
   opens_now : Opens (token.Now ∷ []) clock.Now date.Absent
   opens_time : (tokens : List Token) (at : Clock) → IsTime tokens at → Opens tokens at date.Absent

@@ -143,7 +143,7 @@ date_goes_on times _ at is (viable.dash_month_dash digits number count year fits
     dated times (token.Number count year ∷ token.Dash ∷ token.Number digits number ∷ token.Dash ∷ []) (token.Number 1 1 ∷ []) at _ is
     (grammar.dashes digits number 1 1 count year fits refl four)
 
--- a timespec without an increment may stand before one
+-- a timespec without an increment may come before one
 opens : (tokens : List Token) (spec : Timespec) → Spells tokens spec → spec.increment ≡ None → Opens tokens spec.clock spec.date
 opens _ _ (grammar.time times at is) none = opens_time times at is
 opens _ _ (grammar.time_date times dates at day is that) none = opens_date times dates at day is that

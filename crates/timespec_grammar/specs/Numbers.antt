@@ -1,4 +1,4 @@
--- Which numbers may stand where in a time (POSIX.1-2017, XCU, at: timespec), by their digits and their
+-- Which numbers are allowed where in a time (POSIX.1-2017, XCU, at: timespec), by their digits and their
 -- value. How many digits a count has, and that it may be 0, is this project's own.
 use Rattle.std.specs.Prelude.{ℕ, ◌/◌, ◌%◌, ◌==◌, ◌&&◌, ◌||◌, Bool, nat_le}
 use Rattle.timespec_grammar.specs.declared.numbers.TheConstants.{MAX_COUNT, MAX_COUNT_DIGITS}

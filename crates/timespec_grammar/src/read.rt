@@ -29,21 +29,21 @@ pub enum Read {
     SlashDay(Clock, u8, u8),
     /// A time, a day and a dot.
     DayDot(Clock, u8),
-    /// A time, a day, a dot and a month; the month stands first here.
+    /// A time, a day, a dot and a month; the month comes first here.
     DotMonth(Clock, u8, u8),
     /// A time, a year and a dash.
     YearDash(Clock, u16),
-    /// A time, a year, a dash and a month; the month stands first here.
+    /// A time, a year, a dash and a month; the month comes first here.
     DashMonth(Clock, u8, u16),
     /// A time, a year, a month and the dash before the day.
     DayDue(Clock, u8, u16),
-    /// All that may stand before an increment.
+    /// All that may come before an increment.
     Dated(Clock, DatePart),
     /// The same and a plus.
     Added(Clock, DatePart),
     /// The same and a count.
     Counted(Clock, DatePart, u32),
-    /// What may stand before an increment, and `next`.
+    /// What may come before an increment, and `next`.
     Following(Clock, DatePart),
     /// A timespec with its increment.
     Whole(Timespec),

@@ -9,7 +9,7 @@ use Rattle.timespec_lexer.specs.declared.token.Token.{Token}
 use Rattle.timespec_lexer.specs.declared.placed.Placed.{Placed}
 use Rattle.timespec_lexer.proofs.StandLaws.{holds_solid, holds_inside, holds_once, none_holds}
 
--- two places after the same separators where no separator stands are one
+-- two places after the same separators where no separator is are one
 one_place : (text : List ℕ) (from a b : ℕ) → AreSeparators text from a → AreSeparators text from b
     → is_separator (slice_index text a) ≡ false → is_separator (slice_index text b) ≡ false → a ≡ b
 one_place text from a b short long here there =

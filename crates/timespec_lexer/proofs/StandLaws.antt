@@ -1,4 +1,4 @@
--- At one place of a text at most one token stands, up to one end.
+-- At one place of a text there is at most one token, up to one end.
 use Rattle.std.proofs.Common.{◌≡◌, ℕ, zero, suc, ◌+◌, ◌-◌, ◌<◌, ◌≤◌, ◌==◌, ◌&&◌, Bool, true, false, List, [], length, get_or, arith, refl, sym, ◌∙◌, ap, subst, Some, ◌⊎◌, inl, inr, eqb-true}
 use Rattle.std.specs.Prelude.{slice_index, Contains, unwrap_or, bytes_eq}
 use Rattle.std.specs.List.{position_from}
@@ -92,7 +92,7 @@ and_right : (a b : Bool) → (a && b) ≡ true → b ≡ true
 and_right true b both = both
 and_right false b both = absurd (cc)
 
--- the row in which a word stands first
+-- the first row that a word is in
 first_row : List ℕ → ℕ
 first_row word = unwrap_or (position_from (λ row. bytes_eq row.0 word) 0 keywords) 59
 
@@ -167,7 +167,7 @@ holds_once text from to to' token token' (inr (inr a)) (inr (inr b)) =
 first_of : (text : List ℕ) (from : ℕ) → ((k : ℕ) → k ≤ MAX_DIGITS → IsDigitAt text (from + k)) → IsDigitAt text from
 first_of text from digits = subst (λ (place : ℕ). IsDigitAt text place) (omega arith) (digits 0 (omega arith))
 
--- where no token begins none stands
+-- where no token begins there is none
 pub none_holds : (text : List ℕ) (from to : ℕ) (token : Token) → BeginsNoToken text from → HasToken text from to token → ⊥
 none_holds text from to token (strange digit letter mark) (inl number) = cc (first_digit text from to token number, digit)
 none_holds text from to token (strange digit letter mark) (inr (inl a)) = cc (a.mark, mark)
@@ -186,7 +186,7 @@ none_holds text from to token (long_run digits) (inr (inl a)) =
 none_holds text from to token (long_run digits) (inr (inr keyword)) =
     cc (first_of text from digits, letter_no_digit (slice_index text from) keyword.letter)
 
--- a token stands within its text
+-- a token lies within its text
 pub holds_inside : (text : List ℕ) (from to : ℕ) (token : Token) → HasToken text from to token → from < length text
 holds_inside text from to token holds =
     elim (cases_lt from (length text)) [

@@ -11,7 +11,7 @@ use Rattle.timespec_lexer.specs.Tokens.{HasWord, WordTable}
 use Rattle.timespec_lexer.specs.declared.token.Token.{Token}
 use Rattle.timespec_lexer.specs.declared.found.Found.{Found}
 
--- a row's word is no longer than so many letters where it stands
+-- a row's word is no longer than so many letters where it is
 abbrev pub IsNoLonger : List ℕ → ℕ → ℕ → List ℕ × Token → Type 0
 IsNoLonger text place count row = HasWord text place row.0 → length row.0 ≤ count
 

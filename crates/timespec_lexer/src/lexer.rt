@@ -38,7 +38,7 @@ pub fn tokens(text: &[u8]) -> Result<ArrayVec<Placed, MAX_TOKENS>, LexFault>
     }
 }
 
-// The first place from this one on where no separator stands, or the end.
+// The first place from this one on where no separator is, or the end.
 fn skip_separators(text: &[u8], from: usize) -> usize
     requires { from ≤ length text.now }
     ensures within { result ≤ length text.now }

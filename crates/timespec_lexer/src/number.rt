@@ -8,7 +8,7 @@ use crate::found::Found;
 // The most digits of a number.
 const MAX_DIGITS: usize = 9;
 
-/// The number at a place where a digit stands, unless it has too many digits.
+/// The number at a place where a digit is, unless it has too many digits.
 pub fn number_at(text: &[u8], place: usize) -> Option<Found>
     requires digit { IsDigitAt text.now place }
     requires inside { place < length text.now }

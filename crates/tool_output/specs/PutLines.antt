@@ -5,7 +5,7 @@ use Rattle.host_calls.specs.declared.fault.SinkFault.{SinkFault}
 use Rattle.host_calls.specs.declared.fault.SinkFault.TheVariants.{Failed, Memory}
 use Rattle.tool_output.specs.Sinks.{IsCut, IsPut, IsPutInPart, SinkAt}
 
--- the lines of what is told, one after another
+-- the lines of what is known, one after another
 abbrev pub joined_lines : {T : Type 0} → (T → List ℕ) → List T → List ℕ
 joined_lines line [] = []
 joined_lines line (known ∷ others) = line known ++ joined_lines line others

@@ -6,7 +6,7 @@ ghost use Rattle.tool_output.specs.PutLines.{PutsLines, joined_lines};
 use host_calls::{Bytes, Sink, SinkFault};
 use std::alloc::Global;
 
-/// What is told in a line, or in none.
+/// What is known in a line, or in none.
 pub trait PrintedLine {
     ghost line: { Self → List ℕ };
 

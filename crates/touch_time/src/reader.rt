@@ -29,7 +29,7 @@ pub(crate) fn read_touch(text: &[u8]) -> Option<TouchTime>
     })
 }
 
-// The length of the text tells how its year is spelled, since no two forms have the same.
+// The length of the text says how its year is spelled, since no two forms have the same.
 #[tactic(auto, unfolding(crate::specs::inside::Reader::read_year))]
 fn read_year(text: &[u8]) -> Option<(Option<u16>, &[u8])>
     ensures { read_view result ≡ Reader.read_year text.now }

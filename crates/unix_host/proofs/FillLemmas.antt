@@ -7,7 +7,7 @@ use Rattle.std.specs.Prelude.{Option}
 use borrow.Rule.Slice.PartMut.{put_mid, post_of}
 use lib.Seq.{take-add, take-append-le}
 
--- after what was filled stands what was read
+-- what was filled is followed by what was read
 pub read_after : (from room count : ℕ) (old part : List ℕ) → from ≤ length old → count ≤ length part
     → take (from + count) (put_mid from room old part) ≡ take from old ++ take count part
 read_after from room count old part within fits =

@@ -10,7 +10,7 @@ abbrev pub natural_of : ℤ → ℕ
 natural_of (pos count) = count
 natural_of (negsuc _) = 0
 
--- the ending by its exit code, and else by the signal, 0 where none is told
+-- the ending by its exit code, and else by the signal, 0 where none is reported
 abbrev pub ending_by : Option ℤ → Option ℤ → Ending
 ending_by (Some code) signal = Exit (natural_of code)
 ending_by None (Some signal) = Signal (natural_of signal)

@@ -11,7 +11,7 @@ use Rattle.unix_host.specs.declared.host.UnixHost.{UnixHost}
 use Rattle.unix_host.specs.declared.job.JobStart.{JobStart}
 use Rattle.unix_host.specs.declared.unsynced.Unsynced.{Unsynced}
 
--- what every host tells; it spells nothing of what it was made as
+-- what every host reports; it spells nothing of what it was made as
 abbrev pub unix_session : {R A B C D E F G : Type 0} → UnixHost R A B C D E F G → Session
 unix_session host =
     record {

@@ -9,7 +9,7 @@ use host_calls::Name;
 use std::alloc::{AllocError, Global};
 use std::cell::Cell;
 
-/// A plain file, its length, and where its first bytes stand among those of all.
+/// A plain file, its length, and where its first bytes are among those of all.
 #[derive(Clone, Copy)]
 pub struct Listed {
     pub name: Name,
@@ -113,7 +113,7 @@ fn sort_by_name(order: &mut [Prefixed<'_>])
     order.sort_unstable_by(|one, other| one.file.name.cmp(&other.file.name));
 }
 
-// Whether no name comes before the one that stands before it. Their bytes are compared only where their prefixes are equal.
+// Whether no name comes before the one that comes before it. Their bytes are compared only where their prefixes are equal.
 fn are_in_order(one: &Prefixed<'_>, other: &Prefixed<'_>) -> bool
     ensures { result ≡ not (is_lt (name_cmp other.now.file.now.name one.now.file.now.name)) }
 {

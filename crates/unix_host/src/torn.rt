@@ -5,7 +5,7 @@ ghost use Rattle.unix_host.specs.inside.Torn.{HasTorn, HasWhole, HasMoved};
 
 use host_calls::Name;
 
-/// The files whose bytes a power cut may tear. One file is told apart, so that a session that syncs each
+/// The files whose bytes a power cut may tear. One file is distinguished, so that a session that syncs each
 /// file before it turns to the next leaves nothing.
 #[derive(Clone, Copy)]
 pub enum Torn {

@@ -1,4 +1,4 @@
-//! Calls of a host, and its answers in words. After each answer stands a `;`, and `!` is a fault.
+//! Calls of a host, and its answers in words. Each answer is followed by `;`, and `!` is a fault.
 ghost use Rattle.std.specs.Prelude.{◌≡◌, false, Contains};
 ghost use Rattle.host_calls.specs.Session.{IsInside, IsOutside, StaysInside};
 
@@ -106,7 +106,7 @@ fn run_text(
     Vec::from_slice(alloc, text.as_bytes())
 }
 
-// Runs a job, and asks twice how it ended.
+// Runs a job, and polls twice how it ended.
 fn ran<H: Host>(rt: &HostRuntime, host: &mut H, name: &Name) -> Result<Vec<u8>, HostFault>
     requires unknown { H.tells ≡ false }
     requires inside { IsInside (H.session host.old) }

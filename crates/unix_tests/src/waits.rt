@@ -133,8 +133,8 @@ fn time_to_enter(rt: &HostRuntime, path: &str, waits: Waits) -> Result<Duration,
     Ok(rt.monotonic()?.saturating_sub(before))
 }
 
-// A lock that is let go soon is had at once, and by one that asks a second later. Where the machine is busy it may take as
-// long once, and not ten times.
+// A lock that is let go soon is had at once, and by one that tries a second later. Where the machine is busy it may take
+// as long once, and not ten times.
 #[test]
 fn a_lock_that_is_let_go_is_had_after_a_nap(rt: HostRuntime) -> Result<(), Fail> {
     let path = fresh_spool(&rt, "let_go")?;

@@ -31,7 +31,7 @@ none_removed names start = record { body = refl; gone = λ place inside. absurd 
 pub is_contained : (names : List (List ℕ)) (place : ℕ) → place < length names → Contains names (slice_index_or names place [])
 is_contained names place inside = (place, inside, get_or_default names place _ [] inside)
 
--- the name that is at a place, whatever stands for no name
+-- the name that is at a place, whatever serves as no name
 pub at_place : (names : List (List ℕ)) (count : ℕ) (name : List ℕ) → count < length names → name ≡ slice_index_or names count name → name ≡ slice_index_or names count []
 at_place names count name inside is = is ∙ get_or_default names count name [] inside
 
@@ -91,7 +91,7 @@ removed_leaves names name start directory among leaves image is =
       ];
     }
 
--- a place whose name is not that of the last place stands before it
+-- a place whose name is not that of the last place comes before it
 earlier : (names : List (List ℕ)) (count place : ℕ) → place < count + 1 → ¬ (slice_index_or names place [] ≡ slice_index_or names count []) → place < count
 earlier names count place early differ = let at_most : place ≤ count = omega arith in elim (eq-or-lt_of_le at_most) [ inl same ↦ absurd (differ (ap (λ at. slice_index_or names at []) same)) | inr below ↦ below ]
 

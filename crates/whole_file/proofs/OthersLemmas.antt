@@ -70,7 +70,7 @@ pub nothing_holds : (bodies : ℕ → Body) (held : Option ℕ) → MayHoldAt bo
 nothing_holds bodies None is = refl
 nothing_holds bodies (Some number) is = absurd is
 
--- nothing but nothing may stand where nothing is held
+-- nothing but nothing is possible where nothing is held
 pub none_holds : (bodies : ℕ → Body) (holds : Option (List ℕ)) → MayHoldAt bodies None holds → holds ≡ None
 none_holds bodies None is = refl
 none_holds bodies (Some bytes) is = absurd is

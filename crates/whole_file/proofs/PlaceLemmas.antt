@@ -68,7 +68,7 @@ grown start bodies changes = record { durable = start.durable; pending = changes
 abbrev AreElsewhere : (ℕ → Body) → (ℕ → Body) → ℕ → Type 0
 AreElsewhere bodies others number = (other : ℕ) → ¬ (other ≡ number) → others other ≡ bodies other
 
--- a name of the start stands as before, where the names that were chosen hold what the start's choice holds
+-- a name of the start is as before, where the names that were chosen hold what the start's choice holds
 holds_before : (start : Directory) (bodies : ℕ → Body) (number : ℕ) → IsFresh start number → AreElsewhere start.body bodies number → (before names : Names) → AreAfterSome start.pending start.durable before → (name : List ℕ) (holds : Option (List ℕ)) → map.get names name ≡ map.get before name → MayHoldAt bodies (map.get names name) holds → MayHoldAt start.body (map.get before name) holds
 holds_before start bodies number fresh elsewhere before names chosen name holds same is =
     holds_elsewhere start.body bodies number elsewhere (map.get before name) holds (fresh before chosen name) (subst (λ held. MayHoldAt bodies held holds) same is)
@@ -136,7 +136,7 @@ chosen_renamed temp target start number names differ no_temp chosen = elim chose
   ]
 ]
 
--- where the body is durable, its bytes alone may stand
+-- where the body is durable, its bytes alone are possible
 durable_holds : (bodies : ℕ → Body) (number : ℕ) (bytes : List ℕ) → bodies number ≡ durable_body (made_body bytes) → (holds : Option (List ℕ)) → MayHoldAt bodies (Some number) holds → holds ≡ Some bytes
 durable_holds bodies number bytes whole None is = absurd is
 durable_holds bodies number bytes whole (Some other) is =

@@ -14,7 +14,7 @@ pub record LeavesOthers (may_change : List ℕ → Type 0) (start : Directory) (
   pub was : IsImage start from
   pub others : (name : List ℕ) → ¬ (may_change name) → map.get image name ≡ map.get from name
 
--- The call starts nothing and asks no child, and a crash at each of its moments leaves an image that has P.
+-- The call starts nothing and polls no child, and a crash at each of its moments leaves an image that has P.
 pub record ChangesFiles (P : Files → Type 0) (old new : World) : Type 0 where
   pub handed : new.now.handed ≡ old.now.handed
   pub asked : new.asked ≡ old.asked

@@ -1,11 +1,12 @@
-//! Who is told each call on inputs.
+//! Who is notified of each call on inputs.
 ghost use Rattle.std.specs.Prelude.{◌≡◌, Bool, IsTrue, IfOk};
 ghost use Rattle.host_calls.specs.Inputs.{Contents, IsInputPrefix};
 ghost use Rattle.witnessed_host.specs.PassedAnswers.{Passes};
 
 use host_calls::{Bytes, InputFault};
 
-/// Who is told each call on inputs with its answer. He passes an answer on, or disputes it: the call has failed then.
+/// Who is notified of each call on inputs with its answer. He passes an answer on, or disputes it: the call has
+/// failed then.
 pub trait InputWitness {
     /// Whether he knows the content.
     ghost knows: { Bool };

@@ -1,4 +1,4 @@
-//! Readings that tell what they answered.
+//! Readings that record what they answered.
 ghost use Rattle.std.specs.Prelude.{◌≡◌, ◌≤◌, [], true, IsTrue, None};
 ghost use Rattle.host_calls.specs.Causes.{Rose};
 ghost use Rattle.host_calls.specs.Clock.{with_load, with_now, with_rest};

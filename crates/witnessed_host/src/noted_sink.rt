@@ -1,4 +1,4 @@
-//! A sink that tells what was put.
+//! A sink that records what was put.
 ghost use Rattle.std.specs.Prelude.{◌≡◌, [], true, IsTrue};
 ghost use Rattle.host_calls.specs.Causes.{HasCause};
 ghost use Rattle.host_calls.specs.Sink.{Puts};

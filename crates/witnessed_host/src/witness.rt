@@ -1,4 +1,4 @@
-//! Who is told each call on a directory.
+//! Who is notified of each call on a directory.
 ghost use Rattle.std.specs.Prelude.{◌≡◌, Bool, IsTrue, IsSome, IfOk, length};
 ghost use Rattle.std.specs.Allocator.{alloc_error};
 ghost use Rattle.std.specs.FinMap as map;
@@ -9,8 +9,8 @@ ghost use Rattle.witnessed_host.specs.PassedAnswers.{Passes};
 use host_calls::{Child, Ending, EnterFault, HostFault, Name, StartFault};
 use std::alloc::AllocError;
 
-/// Who is told each call on a directory with its answer. He passes an answer on, or disputes it: the call has failed
-/// then.
+/// Who is notified of each call on a directory with its answer. He passes an answer on, or disputes it: the call has
+/// failed then.
 pub trait Witness {
     /// Whether he knows the files.
     ghost knows: { Bool };
@@ -130,7 +130,7 @@ pub trait Witness {
         ensures handed { IsTrue knows
             → StartCall number name.now nice (world self.old) (world self.new) answer.now };
 
-    /// A child was asked whether it has ended. A dispute stands as an out-of-memory error, the one fault of this
+    /// A child was asked whether it has ended. A dispute counts as an out-of-memory error, the one fault of this
     /// call.
     fn asked(
         &mut self,

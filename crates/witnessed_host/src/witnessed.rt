@@ -6,8 +6,8 @@ use crate::{Unmodelled, Witness};
 use host_calls::{Child, Ending, EnterFault, Host, HostFault, Name, StartFault};
 use std::alloc::{AllocError, Global};
 
-/// A host that exposes nothing of its files, next to a witness who is told each call with its answer. The two of them
-/// tell what he knows. A dispute counts as a fault of the host.
+/// A host that exposes nothing of its files, next to a witness who is notified of each call with its answer. The two
+/// of them report what he knows. A dispute counts as a fault of the host.
 #[derive(Drop)]
 pub struct Witnessed<H: Unmodelled + Drop, W: Witness + Drop> {
     host: H,

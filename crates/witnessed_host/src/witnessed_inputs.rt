@@ -6,8 +6,8 @@ use crate::{InputWitness, UnmodelledInputs};
 use host_calls::{Bytes, InputFault, Inputs};
 use std::alloc::Global;
 
-/// Inputs that expose nothing of their content, next to a witness who is told each call with its answer. The two of
-/// them tell what he knows. A dispute counts as a fault of the inputs.
+/// Inputs that expose nothing of their content, next to a witness who is notified of each call with its answer. The
+/// two of them report what he knows. A dispute counts as a fault of the inputs.
 #[derive(Drop)]
 pub struct WitnessedInputs<I: UnmodelledInputs + Drop, W: InputWitness + Drop> {
     inputs: I,

@@ -39,7 +39,7 @@ span_in text = do
   first ← number_before text
   range_from first.0 first.1
 
--- a range that stands from low to high
+-- a range that goes from low to high
 unfoldable pub element_in : ℕ → ℕ → List ℕ → Option (ℕ × ℕ)
 element_in low high text = do
   span ← span_in text

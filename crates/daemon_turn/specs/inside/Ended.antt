@@ -19,6 +19,6 @@ pub record AreEndsByNumber (steps : List TurnStep) : Type 0 where
   pub each : All (λ step. is_end step ≡ true) steps
   pub ordered : AllPairs (λ one other. number_of_step one < number_of_step other) steps
 
--- the children of which the steps tell no end
+-- the children of which the steps report no end
 abbrev pub without_ended : List TurnStep → List Kid → List Kid
 without_ended steps kids = filter (λ kid. not (list_any (tells_end_of kid.number) steps)) kids

@@ -18,7 +18,8 @@ abbrev pub added_by_start : Result (Kept × Option Child) StoreFault → List Ch
 added_by_start (Ok started) = option_to_list started.1
 added_by_start (Err fault) = []
 
--- what a start leaves: it stands and its script was started, or nothing was, and the start may stand or not
+-- what a start leaves: it took effect and its script was started, or nothing was, and the start may have taken effect
+-- or not
 abbrev pub HandingEnds : JobTable → ℕ → ℤ → World → World → Result (Kept × Option Child) StoreFault → Type 0
 HandingEnds table number second old new (Ok started) = IsStarted table number second (is_some started.1) started.0 old new
 HandingEnds table number second old new (Err fault) = AreStopped table [] (Start number second ∷ []) [] [] old new

@@ -17,8 +17,8 @@ use Rattle.spool_model.specs.declared.turn_step.TurnStep.{TurnStep}
 use Rattle.daemon_turn.specs.Kids.{started_numbers}
 use Rattle.spool_model.specs.StepsOf.{steps_of_turn}
 
--- The steps of a part of a turn, the next one that may stand where it was stopped, the questions, whether a child came of
--- each start, and the children that came.
+-- The steps of a part of a turn, the next one that may have taken effect where it was stopped, the questions, whether a
+-- child came of each start, and the children that came.
 pub record TurnPart : Type 0 where
   pub steps : List TurnStep
   pub next : List TurnStep
@@ -26,7 +26,7 @@ pub record TurnPart : Type 0 where
   pub flags : List Bool
   pub added : List Kid
 
--- a part that asks and starts nothing
+-- a part that polls and starts nothing
 abbrev pub quiet_part : List TurnStep → List TurnStep → TurnPart
 quiet_part steps next = record { steps = steps; next = next; questions = []; flags = []; added = [] }
 

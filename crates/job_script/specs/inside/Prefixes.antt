@@ -11,7 +11,7 @@ pub record IsUmaskPrefix (bytes rest : List ℕ) : Type 0 where
   pub octal : umask < 512
   pub text : bytes ≡ umask_line umask ++ rest
 
--- the bytes begin with one byte of a value, as it stands between single quotes, and go on so
+-- the bytes begin with one byte of a value, as it is written between single quotes, and go on so
 pub record IsPartPrefix (bytes rest : List ℕ) : Type 0 where
   pub byte : ℕ
   pub no_zero : IsTrue (is_no_zero byte)

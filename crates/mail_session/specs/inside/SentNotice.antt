@@ -52,7 +52,8 @@ pub record HandsNoticeOver (tells : Bool) (before after : Session) (old new : Wo
   pub no_fault : ¬ (result ≡ Err Failed)
   pub files : tells ≡ true → IsHandingOver number old new result
 
--- What a sending leaves: the note stands and its notice was sent, or nothing was, and the note may stand or not.
+-- What a sending leaves: the note is written and its notice was sent, or nothing was, and the note may be written or
+-- not.
 abbrev pub SendingEnds : Mailing → List Note → ℕ → World → World → Result (Option Child) HostFault → Type 0
 SendingEnds of notes number old new (Ok child) =
     (handed : Handed) × IsHandedFor of number handed × (handed.started ≡ is_some child)

@@ -39,7 +39,7 @@ IsInOrder rows = AreAscending (map (λ under. under.0) rows)
 abbrev pub rows_by_number : List Row → RowMap
 rows_by_number rows = map (λ row. (row.number, row)) rows
 
--- under each number stands the row of its file
+-- under each number is the row of its file
 abbrev pub AreRowsOf : List Mark → List JobFile → RowMap → Type 0
 AreRowsOf marks files rows = (number : ℕ) → row_in_map rows number ≡ option_map (row_of marks) (file_of number files)
 

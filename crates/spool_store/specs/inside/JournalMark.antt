@@ -51,7 +51,7 @@ KeepsFiles old new =
     (name : List ℕ) → ¬ (IsEither temporary_file journal_file name) →
     finite.get (reading_of new) name ≡ finite.get (reading_of old) name
 
--- The mark stands: each image shows the table, and what is kept is current with it, but for files of numbers
+-- The mark is written: each image shows the table, and what is kept is current with it, but for files of numbers
 -- that the last mark decides.
 pub record IsMarkDurable (before : List Mark) (journal : JournalRead) (directory : Directory) (table : JobTable) : Type 0 where
   pub shows : EachShows directory table

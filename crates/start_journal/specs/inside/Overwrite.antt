@@ -1,4 +1,4 @@
--- A range of a file that is written over where it stands (own).
+-- A range of a file that is written over in place (own).
 use Rattle.std.specs.Prelude.{◌≡◌, List, [], ℕ, length, option_map}
 use Rattle.std.specs.FinMap as map
 use Rattle.host_calls.specs.Directory.{Files, Directory, IsImage, overwritten, reading_of}

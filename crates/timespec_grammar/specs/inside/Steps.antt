@@ -30,7 +30,7 @@ after_colon hour (token.Number digits value) =
     if is_minute digits value then Some (read.HourMinute hour value) else None
 after_colon hour _ = None
 
--- what follows all that may stand before an increment
+-- what follows all that may come before an increment
 abbrev pub after_date : Clock → DatePart → Token → Option Read
 after_date at day token.Plus = Some (read.Added at day)
 after_date at day token.Next = Some (read.Following at day)
