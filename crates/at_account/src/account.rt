@@ -77,7 +77,7 @@ impl Account {
     }
 
     /// Takes what is new of the jobs of a table, which a store lists: of each number that it is seen, that it
-    /// was started, and that it is closed. Where there would be too many records, or memory is wanting, the
+    /// was started, and that it is closed. Where there would be too many records, or memory runs out, the
     /// account stays as it was.
     pub fn observe(
         &mut self,

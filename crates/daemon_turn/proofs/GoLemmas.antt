@@ -120,7 +120,7 @@ asks_go tells before after old new kept questions stays asked = record {
   files = λ known table current. record { given = []; flagged = refl; numbered = refl; ends = asked known kept table current };
 }
 
--- where memory is wanting
+-- where memory runs out
 pub memory_goes : (tells : Bool) (before after : Session) (old new : World) (kept : Kept) (questions : List Asked) → StaysInside before after →
     (tells ≡ true → (now : Kept) (table : JobTable) → IsCurrent now old.now.directory table → AreMade table [] [] questions now old new) →
     MakesPart tells before after old new kept (asked_part questions) (Err Memory)

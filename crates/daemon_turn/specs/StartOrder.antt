@@ -23,7 +23,7 @@ pub record Turn : Type 0 where
   pub load : Option ℕ
   pub mode : Mode
 
--- the turn of a daemon on what it is handed
+-- the turn of a daemon on what it is given
 abbrev pub turn_of : DaemonState → TurnInput → Turn
 turn_of daemon at = record {
   kids = daemon.kids;

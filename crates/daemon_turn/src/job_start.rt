@@ -15,7 +15,7 @@ use queue_rules::nice_of;
 use spool_store::{Store, StoreFault};
 use std::alloc::Global;
 
-// Starts the pending job of this number at this second, and hands its script over. No child where the host could
+// Starts the pending job of this number at this second, and starts its script. No child where the host could
 // start none.
 pub(crate) fn start_job<H: Host>(
     alloc: Global,
@@ -29,7 +29,7 @@ pub(crate) fn start_job<H: Host>(
     ensures { HandsJobOver H.tells (H.session host.old) (H.session host.new)
         (H.world host.old) (H.world host.new) store number second result }
 {
-    // A crash between the hand-over and a later mark would let the next turn hand the same script over once more.
+    // A crash between the start and a later mark would let the next turn start the same script again.
     let store = store.start(alloc, host, number, second)?;
     let (name, nice) = script_file(&store, number);
     match host.start(alloc, number, &name, nice) {

@@ -1,4 +1,4 @@
-//! Steps that starts nothing.
+//! Steps that start nothing.
 ghost use Rattle.std.specs.Prelude.{◌≡◌, IfOk};
 ghost use Rattle.spool_store.specs.StepSequences.{MayMakeSteps};
 ghost use Rattle.daemon_turn.specs.inside.MadeSteps.{MakesAll};

@@ -11,7 +11,7 @@ pub record Answers : Type 0 where
 abbrev pub last_count : ℕ
 last_count = 2 ^ 64 - 1
 
--- the list with one answer more, while it has fewer than the last value of u64
+-- the list with one more answer, while it has fewer than the last value of u64
 abbrev pub with_answer : {X : Type 0} → List X → X → List X
 with_answer answers answer = if nat_lt (length answers) last_count then answers ++ answer ∷ [] else answers
 

@@ -206,7 +206,7 @@ with_names_durable directory = record { durable = names_of directory; pending = 
 abbrev pub HasNamesSynced : Directory → Directory → Type 0
 HasNamesSynced old new = new ≡ with_names_durable old
 
--- the directory with one change of names more
+-- the directory with one more change of names
 abbrev pub with_change : Change → Directory → Directory
 with_change change directory = record { durable = directory.durable; pending = change ∷ directory.pending; body = directory.body }
 

@@ -104,7 +104,7 @@ pub record TimePasses (old new : World) : Type 0 where
   pub handed : new.now.handed ≡ old.now.handed
   pub leaves : LeavesOnly (λ image handed. handed ≡ old.now.handed) old new
 
--- One script more was started: the bytes of the named file, and whether a child came of it.
+-- One more script was started: the bytes of the named file, and whether a child came of it.
 pub record HandsOver (number : ℕ) (name : List ℕ) (nice : ℕ) (started : Bool) (old new : Moment) : Type 0 where
   pub script : List ℕ
   pub read : map.get (reading_of old.directory) name ≡ Some script
@@ -116,7 +116,7 @@ StartOutcome number name nice old new (Ok child) = HandsOver number name nice tr
 StartOutcome number name nice old new (Err NoStart) = HandsOver number name nice false old.now new.now
 StartOutcome number name nice old new (Err NoMemory) = new ≡ old
 
--- a start: the directory stays, and at most one script more is started, in one moment
+-- a start: the directory stays, and at most one more script is started, in one moment
 pub record StartCall {T : Type 0} (number : ℕ) (name : List ℕ) (nice : ℕ) (old new : World)
     (result : Result T StartFault) : Type 0 where
   pub outcome : StartOutcome number name nice old new result
@@ -127,7 +127,7 @@ pub record StartCall {T : Type 0} (number : ℕ) (name : List ℕ) (nice : ℕ) 
       old
       new
 
--- the world with one question to a child more
+-- the world with one more question to a child
 abbrev pub with_question : Child → Option Ending → World → World
 with_question child answer world =
     record { now = world.now; before = world.before; asked = world.asked ++ record { child = child; answer = answer } ∷ [] }

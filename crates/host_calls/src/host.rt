@@ -20,7 +20,7 @@ pub trait Host {
     /// What every host reports.
     ghost session: { Self → Session };
 
-    /// Each moment so far. It is meant only where the host exposes its files.
+    /// Each moment so far. It means something only where the host exposes its files.
     ghost world: { Self → World };
 
     /// Begins a session.
@@ -133,7 +133,7 @@ pub trait Host {
         ensures files { IsTrue tells
             → FileCall (IsRemoved name.now) (IsRemoved name.now) (world self.old) (world self.new) result };
 
-    /// Hands the script in the named file over, under this number and niceness. Where no child could be
+    /// Starts the script in the named file, under this number and niceness. Where no child could be
     /// started, it counts as started too.
     fn start(
         &mut self,

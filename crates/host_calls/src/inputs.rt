@@ -8,10 +8,10 @@ use std::alloc::Global;
 
 /// Where commands come from.
 pub trait Inputs {
-    /// Whether they exposes their content.
+    /// Whether they expose their content.
     ghost tells: { Bool };
 
-    /// The content. It is meant only where it is exposed.
+    /// The content. It means something only where it is exposed.
     ghost contents: { Self → Contents };
 
     /// What all inputs report.

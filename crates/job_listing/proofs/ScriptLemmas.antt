@@ -35,7 +35,7 @@ module _ (files output : Bool) (kept : Kept) (numbers : List ℕ) (index or : �
   still_current : (table : JobTable) → files ≡ true → IsCurrent kept old.now.directory table → IsCurrent kept between.now.directory table
   still_current table known current = subst (λ (world : World). IsCurrent kept world.now.directory table) (sym (first.looks known)) current
 
-  -- one script more
+  -- one more script
   pub one_more : (value : Unit {0}) → PutsScripts files output kept (get_or numbers index or ∷ []) between new mid is (Ok value)
       → PutsScripts files output kept (take (index + 1) numbers) old new was is (Ok done)
   one_more value second = record {

@@ -9,7 +9,7 @@ use daemon_turn::Kid;
 use host_calls::{Child, Ending, Host};
 use std::alloc::{AllocError, Global};
 
-/// Polls each of the children once, in order, and drops those that have ended. Where memory is wanting for a
+/// Polls each of the children once, in order, and drops those that have ended. Where memory runs out for a
 /// question, the children that were not asked stay.
 pub fn ask_kids<H: Host>(alloc: Global, host: &mut H, kids: &mut Vec<Kid>) -> Result<(), AllocError>
     requires inside { IsInside (H.session host.old) }

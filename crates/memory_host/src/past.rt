@@ -201,7 +201,7 @@ impl Past {
         Ok(())
     }
 
-    /// Hands a file's script over, under this number and niceness. Whether a child came of it is reported.
+    /// Starts a file's script, under this number and niceness. Whether a child came of it is reported.
     pub fn hand_over(
         &mut self,
         alloc: Global,

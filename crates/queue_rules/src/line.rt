@@ -56,7 +56,7 @@ impl DueLine {
         DueLine { due_jobs }
     }
 
-    /// Puts the job in its place. Where memory is wanting nothing changes.
+    /// Puts the job in its place. Where memory runs out nothing changes.
     pub fn add(&mut self, due: Due) -> Result<(), AllocError>
         ensures added { OnOk result (IsPermutation (due ∷ self.old) self.new) }
         ensures kept { OnErr result (self.new ≡ self.old) }

@@ -26,7 +26,7 @@ impl Lines {
         })
     }
 
-    /// Another row. Where memory is wanting nothing changes.
+    /// Another row. Where memory runs out nothing changes.
     pub fn add(&mut self, row: &Row) -> Result<(), AllocError>
         ensures added { OnOk result ((rows : List Row) → AreLinesOf rows self.old
             → AreLinesOf (rows ++ row.now ∷ []) self.new) }

@@ -14,7 +14,7 @@ pub trait LineRecord: Copy {
         ensures some { IfSome result (spells line.now) }
         ensures none { IfNone result ((one : Self) → ¬ (spells line.now one)) };
 
-    /// Adds the record's line, without its newline, to the text. Where memory is wanting, a part of it
+    /// Adds the record's line, without its newline, to the text. Where memory runs out, a part of it
     /// may be there.
     fn write(&self, text: &mut Vec<u8>) -> Result<(), AllocError>
         requires { CanBeSpelled spells self.now }

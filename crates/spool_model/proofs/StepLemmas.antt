@@ -133,7 +133,7 @@ other_accepted number accepted times differ = elim (eqb_tells number accepted) [
   | inr apart ↦ ap (λ b. cond b (times + 1) times) apart.0
 ]
 
--- a number that is old is accepted no more
+-- a number that is old is no longer accepted
 none_of_old : (drawn : Bool) (table : JobTable) (steps : List Step) → AreLegal table steps → FollowDraws drawn steps → (number : ℕ) → IsOld drawn number table.last → times_accepted number steps ≡ 0
 none_of_old drawn table [] legal follow number old = refl
 none_of_old drawn table (Draw ∷ later) legal follow number old =

@@ -24,7 +24,7 @@ abbrev pub NumbersAreAcceptedOnce : Type 0
 NumbersAreAcceptedOnce = (table : JobTable) (steps : List Step) → AreLegal table steps → FollowDraws false steps →
     (number : ℕ) → times_accepted number steps ≤ 1
 
--- there, a number that was drawn before is accepted no more
+-- there, a number that was drawn before is no longer accepted
 abbrev pub OldNumbersAreNotAccepted : Type 0
 OldNumbersAreNotAccepted = (table : JobTable) (steps : List Step) → AreLegal table steps → FollowDraws false steps →
     (number : ℕ) → number ≤ table.last → times_accepted number steps ≡ 0

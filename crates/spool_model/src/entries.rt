@@ -54,7 +54,7 @@ impl JobEntries {
         Ok(())
     }
 
-    /// Brings the live job under the number to this state. Where there is none, nothing changes.
+    /// Sets the state of the live job under the number. Where there is none, nothing changes.
     pub fn set_state(&mut self, number: u32, state: State)
         ensures { self.new ≡ with_state number state (finite.get self.old number) self.old }
     {
@@ -73,7 +73,7 @@ impl JobEntries {
         }
     }
 
-    /// Takes the entry under the number out.
+    /// Removes the entry under the number.
     pub fn remove(&mut self, number: u32)
         ensures { self.new ≡ finite.remove self.old number }
     {

@@ -4,7 +4,7 @@ use host_calls::Ending;
 /// What became of a job that is done.
 #[derive(Clone, Copy, Debug, PartialEq, Eq)]
 pub enum Fate {
-    /// Its user took it back before it started.
+    /// Its user removed it before it started.
     Removed,
     /// It was started, and ended so.
     Finished(Ending),

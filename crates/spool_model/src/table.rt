@@ -85,7 +85,7 @@ impl Table {
         }
     }
 
-    /// Takes the step. Where memory is wanting the table stays as it is.
+    /// Takes the step. Where memory runs out the table stays as it is.
     pub fn take(&mut self, alloc: Global, step: &Step) -> Result<(), AllocError>
         requires { IsLegal self.old step.now }
         ensures taken { OnOk result (self.new ≡ after_step self.old step.now) }

@@ -147,7 +147,7 @@ impl Jobs {
         self.last += 1;
     }
 
-    // Accepts a pending job under the number that was drawn. Where memory is wanting nothing
+    // Accepts a pending job under the number that was drawn. Where memory runs out nothing
     // changes.
     // Room for the row comes first and the row last, so that a step that fails leaves the jobs as they were.
     pub(crate) fn accept(&mut self, row: Row) -> Result<(), AllocError>
@@ -180,7 +180,7 @@ impl Jobs {
         sorted::remove_decided(&mut self.decided, number);
     }
 
-    // Puts the fate of the live job of this number in the place of its row. Where memory is wanting nothing changes.
+    // Puts the fate of the live job of this number in the place of its row. Where memory runs out nothing changes.
     pub(crate) fn decide(&mut self, number: u32, fate: Fate) -> Result<(), AllocError>
         requires { IsLive self.old number }
         ensures decided { OnOk result (self.new ≡ after_step self.old (decision number fate)) }

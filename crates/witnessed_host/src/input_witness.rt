@@ -11,7 +11,7 @@ pub trait InputWitness {
     /// Whether he knows the content.
     ghost knows: { Bool };
 
-    /// The content, as he knows it. It is meant only where he knows it.
+    /// The content, as he knows it. It means something only where he knows it.
     ghost contents: { Self → Contents };
 
     /// The first bytes of standard input were read: all of them, or `most`.

@@ -18,7 +18,7 @@ pub trait Witness {
     /// Whether he knows that nobody else changes them.
     ghost alone: { Bool };
 
-    /// Each moment so far, as he knows it. It is meant only where he knows the files.
+    /// Each moment so far, as he knows it. It means something only where he knows the files.
     ghost world: { Self → World };
 
     /// A session was begun, or not.

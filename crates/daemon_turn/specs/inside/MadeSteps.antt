@@ -1,4 +1,4 @@
--- Steps that starts nothing are made one after another, and written down (own).
+-- Steps that start nothing are made one after another, and written down (own).
 use Rattle.std.specs.Prelude.{◌≡◌, ◌++◌, Bool, List, Result, IfOk}
 use Rattle.host_calls.specs.Session.{Session}
 use Rattle.host_calls.specs.World.{World}
