@@ -15,7 +15,7 @@ use queue_rules::nice_of;
 use spool_store::{Store, StoreFault};
 use std::alloc::Global;
 
-// Starts the pending job of this number at this second, and starts its script. No child where the host could
+// Starts the pending job of this number at this second, and its script. No child where the host could
 // start none.
 pub(crate) fn start_job<H: Host>(
     alloc: Global,
