@@ -2,6 +2,7 @@ pub mod Fields
 pub mod MachineLists
 pub mod SpoolPlace
 pub mod Status
+pub mod ToolTable
 pub mod Tools
 pub mod UserTable
 pub mod Variables
