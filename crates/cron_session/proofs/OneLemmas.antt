@@ -32,7 +32,7 @@ submits_one_at tells before after old new kept job fault (Ok stored) same submit
 submits_one_at tells before after old new kept job fault (Err other) same submits =
     subst (λ (of : StoreFault). SubmitsOne tells before after old new kept job (Err of)) (sym same) submits
 
--- memory was wanting before the submission
+-- memory ran out before the submission
 pub no_memory : (tells : Bool) (session : Session) (world : World) (kept : Kept) (job : Job) → IsInside session → SubmitsOne tells session session world world kept job (Err Memory)
 no_memory tells session world kept job inside = record {
   inside = record { stays = stays_inside session inside; cause = record { later = omega arith; rose = λ bad. absurd (memory_is_none bad) } };

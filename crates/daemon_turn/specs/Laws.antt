@@ -13,7 +13,7 @@ use Rattle.host_calls.specs.declared.turn_end.TurnEnd.TheVariants.{Done, Memory}
 use Rattle.spool_model.specs.declared.turn_step.TurnStep.{TurnStep}
 use Rattle.daemon_turn.specs.TurnOutcome.{DaemonAt, TurnsTo}
 
--- all steps were made, or memory was wanting
+-- all steps were made, or memory ran out
 abbrev pub IsDoneOrMemory : TurnEnd → Type 0
 IsDoneOrMemory Done = Unit {0}
 IsDoneOrMemory Memory = Unit {0}

@@ -58,7 +58,7 @@ fn make_posts(rt: &impl Abort, alloc: Global, pick: u64, host: &mut MemoryHost) 
     Ok(())
 }
 
-// Where the call that fails is the start of the notice, no later session hands it over.
+// Where the call that fails is the start of the notice, no later session sends it.
 #[test]
 fn a_notice_whose_start_failed(rt: HostRuntime) -> Result<(), Fail> {
     let alloc = rt.alloc();

@@ -12,7 +12,7 @@ abbrev pub is_done_cause : Cause → Bool
 is_done_cause Done = true
 is_done_cause _ = false
 
--- memory was wanting
+-- memory ran out
 abbrev pub is_memory : Cause → Bool
 is_memory Memory = true
 is_memory _ = false

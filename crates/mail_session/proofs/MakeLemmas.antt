@@ -82,7 +82,7 @@ module _ (program : List ℕ) (tells : Bool) (before between : Session) (old ask
   abbrev noting : List Note
   noting = noting_of new_jobs
 
-  -- memory was wanting for a question
+  -- memory ran out for a question
   pub ask_wants : (result : Result (Unit {0}) HostFault) → IsErrAnd result (λ other. other ≡ Memory) → {E : Type 0} (of_ask : Result (Unit {0}) E) → AsksKids {E = E} tells kids left old asked of_ask →
       Makes program tells before between old asked plan kids left sent sent result
   ask_wants (Ok done) is of_ask asks = absurd is

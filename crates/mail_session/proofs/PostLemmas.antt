@@ -192,7 +192,7 @@ posts_at program tells before after old new due_notices was is kids more sent go
 
 -- One thing that is due.
 module _ (program : List ℕ) (tells : Bool) (before : Session) (old : World) (due : NoticeDue) (was is : List ℕ) (kids : List Kid) (sent : List ℕ) (inside : IsInside before) where
-  -- memory was wanting before the first change
+  -- memory ran out before the first change
   pub posts_nothing : Posts program tells before before old old (due ∷ []) was is kids kids sent sent (Err Memory)
   posts_nothing = record {
     part = no_part;
