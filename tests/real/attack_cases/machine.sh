@@ -89,3 +89,17 @@ case_who_may_not_submit_any_more() {
   "$atusers" --known; "$atusers" --boot
   [ "$(ls /run/coefhird/atcron /run/coefhird/up | paste -sd ' ')" = '/run/coefhird/atcron:  /run/coefhird/up: eve' ] || fail "there is $(ls /run/coefhird/*)"
 }
+
+# A call of root's for a user whom the lists keep out finds lists that let that user in, also where they are published, and
+# nobody else does.
+case_lists_within_a_call() {
+  own_etc
+  job_of eve
+  does <<<'for list in /etc/at.allow /etc/at.deny /run/coefhird/at.allow /run/coefhird/at.deny; do [ ! -e $list ] || echo "$list: $(paste -sd " " $list)"; done'
+  printf 'eve\nann\n' >/etc/at.deny; "$libexec/publish"
+  calls() { "$atusers" -u eve at -c 1 2>&1 | paste -sd ';'; }
+  [ "$(calls)" = '/etc/at.deny: ;/run/coefhird/at.deny: ' ] || fail "it finds $(calls)"
+  echo ann >/etc/at.allow; "$libexec/publish"
+  [ "$(calls)" = '/etc/at.allow: eve;/etc/at.deny: ;/run/coefhird/at.allow: eve;/run/coefhird/at.deny: ' ] || fail "with both lists it finds $(calls)"
+  [ "$(cat /etc/at.allow /run/coefhird/at.allow /etc/at.deny /run/coefhird/at.deny | paste -sd ' ')" = 'ann ann eve ann eve ann' ] || fail 'the lists are changed'
+}

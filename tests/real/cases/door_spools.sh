@@ -117,6 +117,8 @@ END
   second env -i LOGNAME=stray HOME="$PWD/elsewhere" "$door/at" -t 203001010000 <<<true 2>err || fail "of nobody: $(cat err)"
   spool=$PWD/elsewhere/.local/state/coefhird/jobs
   [ "$(user_of 1)" = stray ] || fail "the user is $(user_of 1)"
+  # (where they may write into that of another, nothing else refuses it)
+  chmod 777 home
   status=0; second env -i LOGNAME=stray HOME="$PWD/home" "$door/at" -t 203001010000 <<<true >out 2>err || status=$?
   [ "$status" != 0 ] && [ "$(find home -user $number)" = '' ] || fail "a home of another is taken: $(cat err)"
 }
