@@ -103,3 +103,22 @@ case_lists_within_a_call() {
   [ "$(calls)" = '/etc/at.allow: eve;/etc/at.deny: ;/run/coefhird/at.allow: eve;/run/coefhird/at.deny: ' ] || fail "with both lists it finds $(calls)"
   [ "$(cat /etc/at.allow /run/coefhird/at.allow /etc/at.deny /run/coefhird/at.deny | paste -sd ' ')" = 'ann ann eve ann eve ann' ] || fail 'the lists are changed'
 }
+
+# Whoever held each inode of wake open kept all others from an atd, and nobody was told. The looks find the jobs of those.
+case_a_wake_that_is_full() {
+  mkdir -p /run/coefhird/wake && mount -t tmpfs -o mode=1733,nr_inodes=20 tmpfs /run/coefhird/wake || skip 'nothing can be mounted'
+  does <<<'sleep 45'
+  job_of ann
+  as eve bash -c 'cd /run/coefhird/wake; for number in $(seq 30); do exec {file}>"$number" || break; done 2>/dev/null; : >~/full; sleep 40' &
+  within 10 test -e home/eve/full || fail 'eve fills nothing'
+  "$atusers" --asked >said 2>&1
+  grep -q '^atusers: /run/coefhird/wake is full: ' said || fail "it says: $(cat said)"
+  ! as ann touch /run/coefhird/wake/asks 2>/dev/null || fail 'wake is not full'
+  [ ! -d /run/coefhird/up/ann ] || fail 'ann is served without a request'
+  "$atusers" --boot
+  within 5 test -s /run/coefhird/up/ann/pid || fail 'the look for all users does not find the job of ann'
+  kill -KILL "$(cat /run/coefhird/up/ann/pid)"
+  "$atusers" --known
+  within 5 is_kept_anew ann || fail 'the look for users who are known does not find the job of ann'
+}
+is_kept_anew() { [ -d "/proc/$(cat "/run/coefhird/up/$1/pid" 2>/dev/null || echo none)" ]; }
