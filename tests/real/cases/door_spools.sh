@@ -35,8 +35,6 @@ steps_of_other_owners() {
     knock ${words%% *} ${words#"${words%% *}"} <commands; refused 2 "${words%% *}: spool fault"
   done
   listed | cmp -s - before || fail "root leaves $(listed | diff before -)"
-  # (which only reads, under the lock that is there)
-  knock atcheck "$spool"; ended 0 '' ''
   [ -z "$(find home -user root ! -name home)" ] || fail "root leaves $(find home -user root)"
   typed "$door/atq"; hinted 'atq: spool fault' "$spool belongs to another user: unset ATSPOOL, or run it as that user"
   # What is beside the spool: another's, or a link.
@@ -193,11 +191,11 @@ steps_of_a_wake() {
   login "$door/batch" <<<true 2>err || fail "$(cat err)"
   [ "$(woken)" = 1 ] || fail 'a batch job wakes no daemon'
   rm /run/coefhird/wake/*
-  for words in 'atq' 'atrm 1' 'at -q x' 'at 830'; do
+  for words in 'atq' 'atrm 1'; do
     # shellcheck disable=SC2086
     login "$door/${words%% *}" ${words#"${words%% *}"} <<<true >out 2>&1
   done
-  [ -z "$(ls /run/coefhird/wake)" ] || fail 'a call that accepts no job wakes a daemon'
+  [ -z "$(ls /run/coefhird/wake)" ] || fail 'a call that submits no job wakes a daemon'
   mkdir -p "/run/coefhird/up/$second"
   login "$door/batch" <<<true 2>err || fail "$(cat err)"
   [ -z "$(ls /run/coefhird/wake)" ] || fail 'a daemon that runs is woken'
