@@ -45,8 +45,11 @@ case_a_home_that_does_not_answer() {
   user low 64330; user high 64340
   job_of low; job_of high
   does <<<'sleep 45'
-  timeout -s KILL 40 "$atusers" --boot &
+  timeout -s KILL 40 "$atusers" --boot 2>said &
   within 30 test -d /run/coefhird/up/high || fail "the users served are: $(ls /run/coefhird/up)"
+  # each of them is said, once
+  said_of=$(sed -n 's/^atusers: the files of \([a-z]*\) do not answer: .*/\1/p' said | sort | paste -sd ' ')
+  [ "$said_of" = 'eve zoe' ] || fail "of those that do not answer it says: $(paste -sd ';' said)"
   [ "$(ls /run/coefhird/up | paste -sd ' ')" = 'ann high low' ] || fail "the users served are: $(ls /run/coefhird/up)"
 }
 

@@ -247,6 +247,8 @@ case_check_salvage_under_the_lock() {
   faulty_spool; printf c >spool.lock
   salvages_with "case \$1 in *.new) flock $PWD/spool.lock sh -c ': >$PWD/held; sleep 1; [ ! -e $PWD/spool.bad ] || : >$PWD/early' >/dev/null 2>&1 & 
     until [ -e $PWD/held ]; do sleep 0.05; done; exit 0 ;; esac"
+  # (whoever holds the lock looks at its end)
+  flock spool.lock true
   [ "$status" = 0 ] && [ -d spool.bad ] && [ ! -e early ] || fail "it does not wait for the lock: $status, $(ls): $(cat out err)"
   [ "$(cat spool.lock)" = a ] || fail "the lock says $(cat spool.lock)"
   [ "$(stat -c '%a %s' spool/.ATD)" = '600 0' ] || fail 'there is no .ATD'

@@ -118,7 +118,8 @@ steps_of_atcrontab() {
   table=home/.config/coefhird/crontab
   [ ! -d /run/coefhird ] || mount -t tmpfs tmpfs /run/coefhird || fail 'nothing can be mounted'
   none="atcrontab: nothing runs it: start it by setsid -f atcron -f $PWD/$table"
-  edits() { status=0; second env -i PATH=/usr/bin:/bin EDITOR="$2" "$door/atcrontab" $1 >out 2>err </dev/null || status=$?; }
+  # (it needs no directory for temporary files)
+  edits() { status=0; second env -i PATH=/usr/bin:/bin TMPDIR=/nowhere EDITOR="$2" "$door/atcrontab" $1 >out 2>err </dev/null || status=$?; }
   edits -l; refused 1 "atcrontab: there is no $PWD/$table"
   printf '#!/bin/sh\nprintf "30 8 * * 1-5 run\\n" >"$1"\n' >good; printf '#!/bin/sh\nprintf "30 8 * * 1-5 run\\n61 * * * * x\\n" >"$1"\n' >spoils
   chmod 755 good spoils
@@ -148,7 +149,7 @@ steps_of_atcrontab() {
   grep -qE "^atcrontab: $PWD/$mark is (89|90) minutes ahead of the clock, and atcron submits nothing until then: see atcron\(8\)\$" err || fail "of a mark ahead: $(cat err)"
   printf '%08x\n' $(($(date +%s) / 60)) >$mark; edits "$PWD/other"; ended 0 '' "$none"$'\n'
   rm $mark
-  # one that was killed before it renamed its file: the next call removes that file, and no other
+  # one that was killed before it renamed its file: the next call removes its files, and no others, nor those of one that goes on
   printf '#!/bin/sh\nkill -KILL $PPID\n' >killer; chmod 755 killer; second touch $table.mine $table.backup
   mount --bind killer "$(realpath /usr/bin/sync)" || fail 'nothing can be mounted'
   edits "$PWD/other" 2>/dev/null; [ "$status" = 137 ] && [ "$(ls home/.config/coefhird | wc -l)" = 4 ] || fail "a killed one: $status, $(ls home/.config/coefhird)"
@@ -156,6 +157,13 @@ steps_of_atcrontab() {
   edits "$PWD/other"; ended 0 '' "$none"$'\n'
   [ "$(ls home/.config/coefhird | paste -sd ' ')" = 'crontab crontab.backup crontab.mine' ] || fail "a killed one leaves $(ls home/.config/coefhird)"
   rm $table.mine $table.backup
+  printf '#!/bin/sh\n: >%q; while [ ! -e %q ]; do sleep 0.05; done; printf "1 8 * * * slow\\n" >"$1"\n' "$PWD/home/open" "$PWD/go" >slow; chmod 755 slow
+  (edits -e "$PWD/slow" >/dev/null; echo "$status" >ended_slow) & awaits home/open
+  edits "$PWD/other"; cp "$table" beside; : >go; wait
+  [ "$(cat beside)" = '0 0 * * * later' ] && [ "$(cat ended_slow) $(cat $table)" = '0 1 8 * * * slow' ] || fail "beside another: $(cat ended_slow $table)"
+  # nothing can be made there: nothing is changed, and no program's own words come
+  chmod 500 home/.config/coefhird; edits "$PWD/other"; refused 1 "atcrontab: nothing can be made in $PWD/home/.config/coefhird"
+  [ "$(cat $table)" = '1 8 * * * slow' ] || fail "the file is $(cat $table)"; chmod 700 home/.config/coefhird
   edits -r; ended 0 '' ''; [ ! -e $table ] || fail 'the file is not removed'
   for words in '' '-x' '-e -l' 'a b' '--from-cron' '--from-cron a b' '--next' '--next 1 a b'; do
     edits "$words"; refused 1 'atcrontab: usage: atcrontab -e | -l | -r | --from-cron FILE | --next COUNT [FILE] | FILE'

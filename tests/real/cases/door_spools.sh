@@ -35,8 +35,6 @@ steps_of_other_owners() {
     knock ${words%% *} ${words#"${words%% *}"} <commands; refused 2 "${words%% *}: spool fault"
   done
   listed | cmp -s - before || fail "root leaves $(listed | diff before -)"
-  # (which only reads, under the lock that is there)
-  knock atcheck "$spool"; ended 0 '' ''
   [ -z "$(find home -user root ! -name home)" ] || fail "root leaves $(find home -user root)"
   typed "$door/atq"; hinted 'atq: spool fault' "$spool belongs to another user: unset ATSPOOL, or run it as that user"
   # What is beside the spool: another's, or a link.
@@ -117,6 +115,8 @@ END
   second env -i LOGNAME=stray HOME="$PWD/elsewhere" "$door/at" -t 203001010000 <<<true 2>err || fail "of nobody: $(cat err)"
   spool=$PWD/elsewhere/.local/state/coefhird/jobs
   [ "$(user_of 1)" = stray ] || fail "the user is $(user_of 1)"
+  # (where they may write into that of another, nothing else refuses it)
+  chmod 777 home
   status=0; second env -i LOGNAME=stray HOME="$PWD/home" "$door/at" -t 203001010000 <<<true >out 2>err || status=$?
   [ "$status" != 0 ] && [ "$(find home -user $number)" = '' ] || fail "a home of another is taken: $(cat err)"
 }
@@ -191,11 +191,11 @@ steps_of_a_wake() {
   login "$door/batch" <<<true 2>err || fail "$(cat err)"
   [ "$(woken)" = 1 ] || fail 'a batch job wakes no daemon'
   rm /run/coefhird/wake/*
-  for words in 'atq' 'atrm 1' 'at -q x' 'at 830'; do
+  for words in 'atq' 'atrm 1'; do
     # shellcheck disable=SC2086
     login "$door/${words%% *}" ${words#"${words%% *}"} <<<true >out 2>&1
   done
-  [ -z "$(ls /run/coefhird/wake)" ] || fail 'a call that accepts no job wakes a daemon'
+  [ -z "$(ls /run/coefhird/wake)" ] || fail 'a call that submits no job wakes a daemon'
   mkdir -p "/run/coefhird/up/$second"
   login "$door/batch" <<<true 2>err || fail "$(cat err)"
   [ -z "$(ls /run/coefhird/wake)" ] || fail 'a daemon that runs is woken'

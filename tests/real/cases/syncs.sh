@@ -97,7 +97,9 @@ steps_of_a_crontab() {
   local table=HERE/.config/coefhird/crontab
   local user=(setpriv --reuid=$number --regid=$number --clear-groups env -i PATH=/usr/bin:/bin "$door/atcrontab")
   traced_script "$PWD/home" "${user[@]}" "$PWD/other"
-  made "sync $table.NEW" "rename $table.NEW $table" 'sync HERE/.config/coefhird' 'sync HERE/.config' 'sync HERE'
+  # (atcron tries it on a spool of its own, which goes with the other temporary files)
+  sed -i -E "/NEW(.jobs.*)?\$|^remove/d" calls
+  made "sync $table.NEW/new" "rename $table.NEW/new $table" 'sync HERE/.config/coefhird' 'sync HERE/.config' 'sync HERE'
   traced_script "$PWD/home" "${user[@]}" -r
   made "remove $table" 'sync HERE/.config/coefhird'
 }
