@@ -1,5 +1,5 @@
 -- No minute comes twice.
-use Rattle.std.proofs.Common.{◌≡◌, ◌≢◌, ◌⊎◌, ◌≤◌, ◌<◌, ◌≤ℤ◌, ◌++◌, ◌+◌, ℕ, suc, Bool, true, false, List, [], ◌∷◌, sym, ap, subst, ◌∙◌, refl, inl, inr, arith, le_refl, ℤ, pos, negsuc, length}
+use Rattle.std.proofs.Common.{◌≡◌, ◌≢◌, ◌⊎◌, ◌≤◌, ◌<◌, ◌≤ℤ◌, ◌++◌, ◌+◌, ℕ, true, false, List, [], ◌∷◌, sym, ap, subst, ◌∙◌, refl, inl, inr, arith, le_refl, ℤ, pos, negsuc, length}
 use Rattle.std.specs.Prelude.{◌^◌, Option, Some, None, take}
 use Rattle.std.proofs.lemmas.Int.{ints}
 use Rattle.std.specs.FinMap as finite
@@ -24,7 +24,7 @@ use Rattle.cron_session.proofs.NameLemmas.{file_beside, temp_apart}
 use Rattle.cron_session.specs.declared.report.CronEnd.{CronEnd}
 use Rattle.cron_session.specs.declared.report.CronEnd.TheVariants.{Done, Busy, FileFault, Damaged, QueueFull, NumbersUsedUp, Memory}
 use Rattle.cron_session.specs.SessionOutcome.{CronLeaves, IsCronIdle, IsSpoolOrTemp, IsCronStopped, IsUnmarked, IsCronDone}
-use Rattle.cron_session.specs.Minutes.{AcceptApart, Beside, CronEvent, CronPassFrom, CronPassed, CutOff, Ended, HasNothingNew, KeepsMark, MayAcceptAt, NoMinuteComesTwice, NoneAcceptsAt, PassesAs, SetsMark, ShowsAStep, SubmitsNothing}
+use Rattle.cron_session.specs.Minutes.{Beside, CronEvent, CronPassFrom, CronPassed, CutOff, Ended, HasNothingNew, KeepsMark, MayAcceptAt, NoMinuteComesTwice, NoneAcceptsAt, PassesAs, SetsMark, ShowsAStep, SubmitsNothing}
 use Rattle.cron_session.specs.Steps.{AreToSubmit, Cron, IsMarkedBefore, minute_of, next_numbers, submissions}
 
 -- each image of the directory has the mark of this minute or of a later one
