@@ -1,3 +1,4 @@
+pub mod AcknowledgedLemmas
 pub mod CommandEffects
 pub mod CountLemmas
 pub mod CountedLemmas

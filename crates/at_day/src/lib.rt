@@ -29,7 +29,7 @@ pub use days::{INTERVAL, LIMIT, day};
 pub use event::{Event, are_day_events, is_day_event};
 pub use events::Events;
 pub use events_report::EventReport;
-pub use laws::made_days_are_reported;
+pub use laws::{acknowledged_events_are_whole, made_days_are_reported};
 pub use made::{Made, make_events};
 pub use made_day::spool_of_day;
 pub use report::DayReport;

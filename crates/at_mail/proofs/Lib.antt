@@ -10,5 +10,6 @@ pub mod RevivingLemmas
 pub mod SentLemmas
 pub mod StayingLemmas
 pub mod TrimEventLemmas
+pub mod TrimLemmas
 pub mod TrimProgramLemmas
 pub mod WritingLemmas

@@ -175,7 +175,7 @@ module _ (retired : ℕ → Type 0) (opening : List Handed) (old new : World) (i
   posted_keeps apart table notes steps new_ones of read first is =
       keeps_by (IsPosted of notes new_ones old.now) (posted retired opening old new inv apart table notes steps read of new_ones first) is.leaves is.now
 
-  beside_keeps : IsBesideMail old new → KeepsOnce retired opening old new
+  pub beside_keeps : IsBesideMail old new → KeepsOnce retired opening old new
   beside_keeps is = keeps_by (LeavesNotes old.now) (beside retired opening old new inv) is.leaves is.now
 
 -- a session, whatever its end

@@ -6,36 +6,48 @@ use Rattle.host_calls.specs.World.{World, reading}
 use Rattle.host_calls.specs.declared.turn_end.TurnEnd.{TurnEnd}
 use Rattle.spool_model.specs.JobTable.{JobTable}
 use Rattle.spool_shows.specs.Shown.{Shows}
-use Rattle.at_mail.specs.Once.{HasOnceSince, HasWholeNotes, IsCrashOfEvent, MailEvent}
+use Rattle.mail_notes.specs.declared.note.Note.{Note}
+use Rattle.at_mail.specs.Once.{HasOnceSince, HasWholeNotes, IsBesideMail, IsCrashOfEvent, IsMailSession}
 use Rattle.at_mail.specs.Laws.{NoJobLivesAgain}
-use Rattle.at_mail.specs.TrimOutcome.{TrimLeaves, TrimsTo}
+use Rattle.at_mail.specs.TrimOutcome.{IsTrimming, TrimsTo}
 
--- no job that is over in the table of the old world lives in that of the new one
-abbrev pub NoneLivesAgain : World → World → Type 0
-NoneLivesAgain old new = (table later : JobTable) → Shows (reading old) table → Shows (reading new) later →
-    NoJobLivesAgain table later
+-- no job that is over in the table lives in what the reading shows
+abbrev pub NoneLivesAgain : JobTable → World → Type 0
+NoneLivesAgain table now = (later : JobTable) → Shows (reading now) later → NoJobLivesAgain table later
 
--- an event: a trim, whatever its end, or a session of mail or another event that leaves the notes alone
-pub data TrimEvent (old new : World) : Type 0 where
-  a_trim : (end : TurnEnd) → TrimLeaves old new end → TrimEvent old new
-  no_trim : MailEvent old new → TrimEvent old new
-
--- Events one after another, with the worlds in which they began, the last one first. Each begins where the one before it
--- ended, or where a crash of it left the directory, and no job lives then that was over when an earlier one began.
-pub data TrimEvents (first : World) : List World → World → Type 0 where
+-- Events one after another, with the tables by which trims dropped notes, the last one first: a trim has recovered then, and
+-- each image shows the table. Each event begins where the one before it ended, or where a crash of it left the directory. A
+-- session of mail begins where no job lives that is over in one of the tables. What comes before the recovery of a trim, and
+-- a trim that drops nothing, is an event that leaves the notes alone.
+pub data TrimEvents (first : World) : List JobTable → World → Type 0 where
   no_event : TrimEvents first [] first
-  next_event : (starts : List World) (before after : World) → TrimEvents first starts before
-      → All (λ start. NoneLivesAgain start before) starts → TrimEvent before after → TrimEvents first (before ∷ starts) after
-  crashed : (starts : List World) (before during after : World) → TrimEvents first starts before
-      → All (λ start. NoneLivesAgain start before) starts → TrimEvent before during → IsCrashOfEvent before during after
-      → TrimEvents first (before ∷ starts) after
+  after_session : (tables : List JobTable) (before after : World) → TrimEvents first tables before
+      → All (λ table. NoneLivesAgain table before) tables → IsMailSession before after → TrimEvents first tables after
+  after_another : (tables : List JobTable) (before after : World) → TrimEvents first tables before → IsBesideMail before after
+      → TrimEvents first tables after
+  after_trim : (tables : List JobTable) (before after : World) (table : JobTable) (notes : List Note)
+      → TrimEvents first tables before → IsTrimming table notes before after → TrimEvents first (table ∷ tables) after
+  crash_of_session : (tables : List JobTable) (before during after : World) → TrimEvents first tables before
+      → All (λ table. NoneLivesAgain table before) tables → IsMailSession before during → IsCrashOfEvent before during after
+      → TrimEvents first tables after
+  crash_of_another : (tables : List JobTable) (before during after : World) → TrimEvents first tables before
+      → IsBesideMail before during → IsCrashOfEvent before during after → TrimEvents first tables after
+  crash_of_trim : (tables : List JobTable) (before during after : World) (table : JobTable) (notes : List Note)
+      → TrimEvents first tables before → (trimming : IsTrimming table notes before during)
+      → IsCrashOfEvent trimming.opened during after → TrimEvents first (table ∷ tables) after
 
 -- where each image of the directory had a whole file of notes
 abbrev pub NoticesAreHandedOnceWithTrims : Type 0
-NoticesAreHandedOnceWithTrims = (first last : World) (starts : List World) → HasWholeNotes first.now.directory →
-    TrimEvents first starts last → HasOnceSince first.now.handed last.now.handed
+NoticesAreHandedOnceWithTrims = (first last : World) (tables : List JobTable) → HasWholeNotes first.now.directory →
+    TrimEvents first tables last → HasOnceSince first.now.handed last.now.handed
 
 -- a trim is an event, over a host that exposes its files and is alone
 abbrev pub TrimsAreEvents : Type 0
-TrimsAreEvents = (before after : Session) (old new : World) (end : TurnEnd) →
-    TrimsTo true true before after old new end → TrimEvent old new
+TrimsAreEvents = (first old new : World) (tables : List JobTable) (before after : Session) (end : TurnEnd) →
+    TrimEvents first tables old → TrimsTo true true before after old new end → (later : List JobTable) × TrimEvents first later new
+
+-- and so is one in which there was a crash, at any moment of it
+abbrev pub CrashesOfTrimsAreEvents : Type 0
+CrashesOfTrimsAreEvents = (first old during new : World) (tables : List JobTable) (before after : Session) (end : TurnEnd) →
+    TrimEvents first tables old → TrimsTo true true before after old during end → IsCrashOfEvent old during new →
+    (later : List JobTable) × TrimEvents first later new

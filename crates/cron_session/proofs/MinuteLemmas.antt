@@ -1,10 +1,8 @@
 -- No minute comes twice.
-use Rattle.std.proofs.Common.{◌≡◌, ◌≢◌, ◌⊎◌, ◌≤◌, ◌<◌, ◌≤ℤ◌, ◌++◌, ℕ, suc, Bool, true, false, List, [], ◌∷◌, sym, ap, subst, ◌∙◌, refl, inl, inr, arith, le_refl, ℤ, pos, negsuc, All, length, get_or}
-use Rattle.std.specs.Prelude.{◌^◌, AllPairs, Option, Some, None, take}
+use Rattle.std.proofs.Common.{◌≡◌, ◌≢◌, ◌⊎◌, ◌≤◌, ◌<◌, ◌≤ℤ◌, ◌++◌, ◌+◌, ℕ, true, false, List, [], ◌∷◌, sym, ap, subst, ◌∙◌, refl, inl, inr, arith, le_refl, ℤ, pos, negsuc, length}
+use Rattle.std.specs.Prelude.{◌^◌, Option, Some, None, take}
 use Rattle.std.proofs.lemmas.Int.{ints}
 use Rattle.std.specs.FinMap as finite
-use Rattle.std.proofs.lemmas.List.Elements.{All-cons, All-nil}
-use Rattle.std.proofs.lemmas.List.Kept.{AllPairs-cons}
 use Rattle.host_calls.specs.declared.clock_seconds.TheConstants.{LAST_SECOND}
 use Rattle.host_calls.specs.ClockRange.{IsClockMinute, IsClockSecond, minute_at}
 use Rattle.text_reader.specs.HexDigits.{SpellsNumber, digits_of}
@@ -15,15 +13,19 @@ use Rattle.host_calls.specs.World.{World, reading}
 use Rattle.host_calls.proofs.DirectoryLemmas.{reading_is_image}
 use Rattle.whole_file.proofs.ChangesJoined.{changes_end, left_alone}
 use Rattle.spool_model.specs.declared.job.Job.{Job}
+use Rattle.spool_model.specs.declared.step.Step.{Step}
 use Rattle.spool_model.specs.JobTable.{JobTable}
+use Rattle.spool_model.specs.Steps.{IsPrefix, after_steps}
+use Rattle.spool_shows.specs.Shown.{Shows}
+use Rattle.step_runs.specs.Made.{ShowsAfterPrefix}
 use Rattle.cron_session.specs.Mark.{IsMark, IsMarkText, cron_mark_text}
 use Rattle.cron_session.specs.MarkNames.{mark_file}
 use Rattle.cron_session.proofs.NameLemmas.{file_beside, temp_apart}
 use Rattle.cron_session.specs.declared.report.CronEnd.{CronEnd}
 use Rattle.cron_session.specs.declared.report.CronEnd.TheVariants.{Done, Busy, FileFault, Damaged, QueueFull, NumbersUsedUp, Memory}
 use Rattle.cron_session.specs.SessionOutcome.{CronLeaves, IsCronIdle, IsSpoolOrTemp, IsCronStopped, IsUnmarked, IsCronDone}
-use Rattle.cron_session.specs.Minutes.{AcceptApart, Beside, CronEvent, CronPassFrom, CronPassed, CutOff, Ended, HasNothingNew, KeepsMark, MayAcceptAt, NoMinuteComesTwice, PassesAs, SetsMark, SubmitsNothing}
-use Rattle.cron_session.specs.Steps.{AreToSubmit, Cron, IsMarkedBefore, minute_of, next_numbers}
+use Rattle.cron_session.specs.Minutes.{Beside, CronEvent, CronPassFrom, CronPassed, CutOff, Ended, HasNothingNew, KeepsMark, MayAcceptAt, NoMinuteComesTwice, NoneAcceptsAt, PassesAs, SetsMark, ShowsAStep, SubmitsNothing}
+use Rattle.cron_session.specs.Steps.{AreToSubmit, Cron, IsMarkedBefore, minute_of, next_numbers, submissions}
 
 -- each image of the directory has the mark of this minute or of a later one
 record HasMarkFrom (minute : ℕ) (directory : Directory) : Type 0 where
@@ -83,6 +85,55 @@ idle_submits_nothing numbers old new idle image is =
     unmarked_has_nothing_new old image (changes_end (IsUnmarked old.now.directory) old new idle.unmarked
     (λ files was. record { alone = left_alone IsSpoolOrTemp old.now.directory files was; same = refl }) image is)
 
+-- What it leaves of the table.
+
+-- it reports a number, or some image shows a step of it
+abbrev Accepts : List ℕ → World → World → Type 0
+Accepts numbers old new = (numbers ≢ []) ⊎ ShowsAStep old.now.directory new.now.directory
+
+shows_no_step : (old new : Directory) → SubmitsNothing old new → ShowsAStep old new → ⊥
+shows_no_step old new nothing step =
+    let here : HasNothingNew old step.image = nothing step.image step.is in
+    step.unseen here.from here.was here.shows
+
+idle_accepts_nothing : (numbers : List ℕ) (old new : World) → IsCronIdle numbers old new → Accepts numbers old new → ⊥
+idle_accepts_nothing numbers old new idle accepts = elim accepts [
+  | inl some ↦ some idle.none
+  | inr step ↦ shows_no_step old.now.directory new.now.directory (idle_submits_nothing numbers old new idle) step
+]
+
+-- after a prefix of no steps an image shows the table itself
+shows_still : (table : JobTable) (prefix : List Step) (image : Files) → IsPrefix prefix [] → Shows image (after_steps table prefix) →
+    Shows image table
+shows_still table [] image is shows = shows
+shows_still table (step ∷ later) image is shows = let impossible : ◌≡◌ {A = List Step} [] (step ∷ later ++ is.0) = is.1 in cc
+
+-- and so where no job was begun
+shows_unbegun : (table : JobTable) (made next : List Job) (image : Files) → made ++ next ≡ [] →
+    ShowsAfterPrefix table (submissions table.last made) (submissions (table.last + length made) next) image → Shows image table
+shows_unbegun table [] [] image none shows = shows_still table shows.prefix image shows.is_prefix shows.shows
+shows_unbegun table [] (job ∷ later) image none shows = let impossible : ◌≡◌ {A = List Job} (job ∷ later) [] = none in cc
+shows_unbegun table (job ∷ made) next image none shows = let impossible : ◌≡◌ {A = List Job} (job ∷ made ++ next) [] = none in cc
+
+none_made : (made next : List Job) → made ++ next ≡ [] → made ≡ []
+none_made [] next none = refl
+none_made (job ∷ made) next none = let impossible : ◌≡◌ {A = List Job} (job ∷ made ++ next) [] = none in cc
+
+-- where no job was begun, it accepted none
+unbegun_accepts_nothing : (cron : Cron) (numbers : List ℕ) (old new : World) (stopped : IsCronStopped cron numbers old new) →
+    stopped.made ++ stopped.next ≡ [] → Accepts numbers old new → ⊥
+unbegun_accepts_nothing cron numbers old new stopped none accepts = elim accepts [
+  | inl some ↦ some (stopped.numbers_are
+      ∙ ap (λ (made : List Job). next_numbers stopped.table.last (length made)) (none_made stopped.made stopped.next none))
+  | inr step ↦ elim (stopped.ends step.image step.is) [
+    | inl before ↦ step.unseen before.1.alone.from before.1.alone.was before.1.same
+    | inr come ↦
+        let shows : Shows step.image stopped.table =
+        shows_unbegun stopped.table stopped.made stopped.next step.image none come.shows in
+        step.unseen (reading old) (reading_is_image old.now.directory) (shows ∙ sym stopped.submits.are.shown)
+  ]
+]
+
 whole_sets : (cron : Cron) (numbers : List ℕ) (old new : World) → IsCronDone cron numbers old new → SetsMark cron old new
 whole_sets cron numbers old new whole = record {
   table = whole.table;
@@ -98,15 +149,15 @@ stopped_marks cron numbers old new stopped image is = elim (stopped.ends image i
   | inr come ↦ inr (stopped.table, stopped.made ++ (stopped.next ++ stopped.later), stopped.submits.are, come.marked)
 ]
 
--- where numbers were accepted, it was stopped after the mark
-stopped_sets : (cron : Cron) (numbers : List ℕ) (old new : World) → numbers ≢ [] → IsCronStopped cron numbers old new → SetsMark cron old new
-stopped_sets cron numbers old new some stopped = record {
+-- where a job was accepted, it was stopped after the mark
+stopped_sets : (cron : Cron) (numbers : List ℕ) (old new : World) → Accepts numbers old new → IsCronStopped cron numbers old new →
+    SetsMark cron old new
+stopped_sets cron numbers old new accepts stopped = record {
   table = stopped.table;
   jobs = stopped.made ++ (stopped.next ++ stopped.later);
   are = stopped.submits.are;
   marked = λ image is. elim (stopped.ends image is) [
-    | inl before ↦ absurd (some (stopped.numbers_are
-        ∙ ap (λ (made : List Job). next_numbers stopped.table.last (length made)) before.0))
+    | inl before ↦ absurd (unbegun_accepts_nothing cron numbers old new stopped before.0 accepts)
     | inr come ↦ come.marked
   ];
 }
@@ -118,11 +169,11 @@ either_marks cron numbers old new leaves image is = elim leaves [
   | inr stopped ↦ stopped_marks cron numbers old new stopped image is
 ]
 
-either_sets : (cron : Cron) (numbers : List ℕ) (old new : World) → numbers ≢ [] →
+either_sets : (cron : Cron) (numbers : List ℕ) (old new : World) → Accepts numbers old new →
     IsCronIdle numbers old new ⊎ IsCronStopped cron numbers old new → SetsMark cron old new
-either_sets cron numbers old new some leaves = elim leaves [
-  | inl idle ↦ absurd (some idle.none)
-  | inr stopped ↦ stopped_sets cron numbers old new some stopped
+either_sets cron numbers old new accepts leaves = elim leaves [
+  | inl idle ↦ absurd (idle_accepts_nothing numbers old new idle accepts)
+  | inr stopped ↦ stopped_sets cron numbers old new accepts stopped
 ]
 
 -- each image of a session's end is marked so
@@ -140,19 +191,26 @@ session_marks cron numbers old new NumbersUsedUp leaves image is = inl (idle_sub
 session_marks cron numbers old new FileFault leaves image is = either_marks cron numbers old new leaves image is
 session_marks cron numbers old new Memory leaves image is = either_marks cron numbers old new leaves image is
 
--- a session that accepted numbers has set the mark
-session_sets : (cron : Cron) (numbers : List ℕ) (old new : World) (end : CronEnd) → numbers ≢ [] →
+-- where nothing was changed at all, it accepted none
+still_accepts_nothing : (numbers : List ℕ) (old new : World) → numbers ≡ [] → new ≡ old → Accepts numbers old new → ⊥
+still_accepts_nothing numbers old new none same accepts = elim accepts [
+  | inl some ↦ some none
+  | inr step ↦ step.unseen step.image (subst (λ (world : World). IsImage world.now.directory step.image) same step.is) refl
+]
+
+-- a session that accepted a job has set the mark
+session_sets : (cron : Cron) (numbers : List ℕ) (old new : World) (end : CronEnd) → Accepts numbers old new →
     CronLeaves cron numbers old new end → SetsMark cron old new
-session_sets cron numbers old new Done some leaves = elim leaves [
-  | inl quiet ↦ absurd (some quiet.idle.none)
+session_sets cron numbers old new Done accepts leaves = elim leaves [
+  | inl quiet ↦ absurd (idle_accepts_nothing numbers old new quiet.idle accepts)
   | inr whole ↦ whole_sets cron numbers old new whole
 ]
-session_sets cron numbers old new Busy some leaves = absurd (some leaves.0)
-session_sets cron numbers old new (Damaged damage) some leaves = absurd (some leaves.1.none)
-session_sets cron numbers old new QueueFull some leaves = absurd (some leaves.1.none)
-session_sets cron numbers old new NumbersUsedUp some leaves = absurd (some leaves.1.none)
-session_sets cron numbers old new FileFault some leaves = either_sets cron numbers old new some leaves
-session_sets cron numbers old new Memory some leaves = either_sets cron numbers old new some leaves
+session_sets cron numbers old new Busy accepts leaves = absurd (still_accepts_nothing numbers old new leaves.0 leaves.1 accepts)
+session_sets cron numbers old new (Damaged damage) accepts leaves = absurd (idle_accepts_nothing numbers old new leaves.1 accepts)
+session_sets cron numbers old new QueueFull accepts leaves = absurd (idle_accepts_nothing numbers old new leaves.1 accepts)
+session_sets cron numbers old new NumbersUsedUp accepts leaves = absurd (idle_accepts_nothing numbers old new leaves.1 accepts)
+session_sets cron numbers old new FileFault accepts leaves = either_sets cron numbers old new accepts leaves
+session_sets cron numbers old new Memory accepts leaves = either_sets cron numbers old new accepts leaves
 
 -- Over events.
 
@@ -221,34 +279,37 @@ event_from minute (CutOff cron false) old new from passes =
 event_from minute Beside old new from passes = keeps_from minute old.now.directory new.now.directory from passes
 
 -- an event that may accept at a minute has set its mark
-accepts_sets : (minute : ℕ) (event : CronEvent) (old new : World) → MayAcceptAt minute event → PassesAs event old new →
+accepts_sets : (minute : ℕ) (event : CronEvent) (old new : World) → MayAcceptAt minute event old new → PassesAs event old new →
     (cron : Cron) × (minute_of cron ≡ minute) × IsClockSecond cron.now × SetsMark cron old new
 accepts_sets minute (Ended cron end numbers) old new accepts passes =
     (cron, accepts.0, passes.0, session_sets cron numbers old new end accepts.1 passes.1)
 accepts_sets minute (CutOff cron true) old new accepts passes = (cron, accepts.0, passes.0, passes.1)
-accepts_sets minute (CutOff cron false) old new accepts passes = absurd (let impossible : false ≡ true = accepts.1 in cc)
+accepts_sets minute (CutOff cron false) old new accepts passes = elim accepts.1 [
+  | inl marked ↦ absurd (let impossible : false ≡ true = marked in cc)
+  | inr step ↦ absurd (shows_no_step old.now.directory new.now.directory passes step)
+]
 accepts_sets minute Beside old new accepts passes = absurd accepts
 
 -- and none does where each image has a mark from the minute on
 none_accepts : (minute : ℕ) (events : List CronPassed) (old : World) → HasMarkFrom minute old.now.directory → CronPassFrom old events →
-    All (λ passed. MayAcceptAt minute passed.event → ⊥) events
-none_accepts minute [] old from pass = All-nil (λ passed. MayAcceptAt minute passed.event → ⊥)
-none_accepts minute (passed ∷ later) old from pass =
-    All-cons (λ passed. MayAcceptAt minute passed.event → ⊥) passed later
-    (λ accepts.
-    let set = accepts_sets minute passed.event old passed.left accepts pass.0 in
-    let after : minute < minute_of set.0 = later_than minute set.0 old set.3.table set.3.jobs from set.3.are in
-    let same : minute_of set.0 ≡ minute = set.1 in
-    omega arith)
-    (none_accepts minute later passed.left (event_from minute passed.event old passed.left from pass.0) pass.1)
+    NoneAcceptsAt minute old events
+none_accepts minute [] old from pass = tt
+none_accepts minute (passed ∷ later) old from pass = (
+  λ accepts.
+      let set = accepts_sets minute passed.event old passed.left accepts pass.0 in
+      let after : minute < minute_of set.0 = later_than minute set.0 old set.3.table set.3.jobs from set.3.are in
+      let same : minute_of set.0 ≡ minute = set.1 in
+      omega arith,
+  none_accepts minute later passed.left (event_from minute passed.event old passed.left from pass.0) pass.1,
+)
 
 pub no_minute_comes_twice : NoMinuteComesTwice
-no_minute_comes_twice [] old pass = λ i j d before within. absurd (omega arith)
-no_minute_comes_twice (passed ∷ later) old pass =
-    AllPairs-cons AcceptApart passed later
-    (λ k d within minute first second.
-    let set = accepts_sets minute passed.event old passed.left first pass.0 in
-    let from : HasMarkFrom minute passed.left.now.directory =
-    subst (λ least. HasMarkFrom least passed.left.now.directory) set.1 (sets_from set.0 old passed.left set.2 set.3) in
-    none_accepts minute later passed.left from pass.1 k d within second)
-    (no_minute_comes_twice later passed.left pass.1)
+no_minute_comes_twice [] old pass = tt
+no_minute_comes_twice (passed ∷ later) old pass = (
+  λ minute accepts.
+      let set = accepts_sets minute passed.event old passed.left accepts pass.0 in
+      let from : HasMarkFrom minute passed.left.now.directory =
+      subst (λ least. HasMarkFrom least passed.left.now.directory) set.1 (sets_from set.0 old passed.left set.2 set.3) in
+      none_accepts minute later passed.left from pass.1,
+  no_minute_comes_twice later passed.left pass.1,
+)

@@ -1,6 +1,7 @@
 -- No minute comes twice (own): over any list of sessions of crontabs and of whatever else keeps the mark (commands, turns,
--- other sessions, crashes), no two sessions accept a job at one minute.
-use Rattle.std.specs.Prelude.{◌≡◌, ◌≢◌, ◌⊎◌, ◌++◌, [], ◌∷◌, ℕ, Bool, true, false, List, Some, AllPairs}
+-- other sessions, crashes), no two sessions accept a job at one minute. A session accepts one where it reports a number, and
+-- where it reports none and some image that it leaves shows a step of it.
+use Rattle.std.specs.Prelude.{◌≡◌, ◌≢◌, ◌⊎◌, ◌++◌, [], ◌∷◌, ℕ, Bool, true, false, List, Some}
 use Rattle.std.specs.FinMap as finite
 use Rattle.host_calls.specs.ClockRange.{IsClockSecond}
 use Rattle.host_calls.specs.Directory.{Files, Directory, IsImage}
@@ -68,11 +69,19 @@ CutSessionsPass = (cron : Cron) (end : CronEnd) (numbers : List ℕ) (old during
     CronLeaves cron numbers old during end → IsCrashOfSession old during new →
     PassesAs (CutOff cron true) old new ⊎ PassesAs (CutOff cron false) old new
 
--- it may have accepted a job at the minute
-abbrev pub MayAcceptAt : ℕ → CronEvent → Type 0
-MayAcceptAt minute (Ended cron end numbers) = (minute_of cron ≡ minute) × (numbers ≢ [])
-MayAcceptAt minute (CutOff cron marked) = (minute_of cron ≡ minute) × (marked ≡ true)
-MayAcceptAt minute Beside = ⊥
+-- Some image of the new directory shows what no image of the old one shows: a step was made, and may survive a crash.
+pub record ShowsAStep (old new : Directory) : Type 0 where
+  pub image : Files
+  pub is : IsImage new image
+  pub unseen : (from : Files) → IsImage old from → shown_by image ≢ shown_by from
+
+-- it may have accepted a job at the minute: it reports a number, or some image shows a step of it
+abbrev pub MayAcceptAt : ℕ → CronEvent → World → World → Type 0
+MayAcceptAt minute (Ended cron end numbers) old new =
+    (minute_of cron ≡ minute) × ((numbers ≢ []) ⊎ ShowsAStep old.now.directory new.now.directory)
+MayAcceptAt minute (CutOff cron marked) old new =
+    (minute_of cron ≡ minute) × ((marked ≡ true) ⊎ ShowsAStep old.now.directory new.now.directory)
+MayAcceptAt minute Beside old new = ⊥
 
 -- an event that has passed, and the world that it left
 pub record CronPassed : Type 0 where
@@ -84,10 +93,19 @@ abbrev pub CronPassFrom : World → List CronPassed → Type 0
 CronPassFrom old [] = Unit {0}
 CronPassFrom old (passed ∷ later) = PassesAs passed.event old passed.left × CronPassFrom passed.left later
 
--- there is no minute at which both may have accepted a job
-abbrev pub AcceptApart : CronPassed → CronPassed → Type 0
-AcceptApart first second = (minute : ℕ) → MayAcceptAt minute first.event → MayAcceptAt minute second.event → ⊥
+-- none of the events may have accepted a job at the minute
+abbrev pub NoneAcceptsAt : ℕ → World → List CronPassed → Type 0
+NoneAcceptsAt minute old [] = Unit {0}
+NoneAcceptsAt minute old (passed ∷ later) =
+    ¬ (MayAcceptAt minute passed.event old passed.left) × NoneAcceptsAt minute passed.left later
+
+-- after an event that may have accepted a job at a minute, none of the later ones accepts one at this minute
+abbrev pub AcceptApart : World → List CronPassed → Type 0
+AcceptApart old [] = Unit {0}
+AcceptApart old (passed ∷ later) =
+    ((minute : ℕ) → MayAcceptAt minute passed.event old passed.left → NoneAcceptsAt minute passed.left later)
+    × AcceptApart passed.left later
 
 -- and so of all events
 abbrev pub NoMinuteComesTwice : Type 0
-NoMinuteComesTwice = (events : List CronPassed) (old : World) → CronPassFrom old events → AllPairs AcceptApart events
+NoMinuteComesTwice = (events : List CronPassed) (old : World) → CronPassFrom old events → AcceptApart old events

@@ -93,8 +93,8 @@ pub record IsCronDone (cron : Cron) (numbers : List ℕ) (old new : World) : Typ
   pub numbers_are : numbers ≡ next_numbers table.last (length jobs)
 
 -- Some jobs were submitted, under the numbers after the last one, and it was stopped there or at the next job: each image
--- has the mark, and shows the table after the steps of these jobs and a prefix of the next one's. Where it was stopped
--- before the first job, an image may be unmarked, and shows the table.
+-- has the mark, and shows the table after the steps of these jobs and a prefix of the next one's. Only where no
+-- job was begun, an image may be unmarked, and shows the table.
 pub record IsCronStopped (cron : Cron) (numbers : List ℕ) (old new : World) : Type 0 where
   pub table : JobTable
   pub made : List Job
@@ -103,7 +103,7 @@ pub record IsCronStopped (cron : Cron) (numbers : List ℕ) (old new : World) : 
   pub few : length next ≤ 1
   pub submits : Submits cron table (made ++ (next ++ later)) old new
   pub ends : (image : Files) → IsImage new.now.directory image →
-      ((made ≡ []) × IsUnmarked old.now.directory image × Shows image table)
+      ((made ++ next ≡ []) × IsUnmarked old.now.directory image × Shows image table)
       ⊎ HasCome (minute_of cron) table (submissions table.last made) (submissions (table.last + length made) next) image
   pub numbers_are : numbers ≡ next_numbers table.last (length made)
 

@@ -11,8 +11,8 @@ use Rattle.spool_model.specs.Steps.{IsPrefix, after_steps}
 use Rattle.spool_shows.specs.Shown.{Shows, shown_by}
 use Rattle.step_runs.specs.Attempts.{IsAsBefore}
 use Rattle.step_runs.specs.Current.{EachShows}
-use Rattle.headline.specs.Laws.{AcknowledgedEventsAreWhole, EventsPassOn, LaterEventsLeave, SettledDirectoriesShowTheirTable, HostsReadTables, StillWorldsAreUnbegun}
-use Rattle.headline.specs.Effects.{Whole, Partial, Crashed, Effect, Passed, Untouched}
+use Rattle.headline.specs.Laws.{EventsPassOn, IsEventWhole, LaterEventsLeave, SettledDirectoriesShowTheirTable, HostsReadTables, StillWorldsAreUnbegun}
+use Rattle.headline.specs.Effects.{Whole, Partial, Crashed, Effect, IsEffectOf, Passed, TakesEffect, Untouched}
 use Rattle.headline.specs.ShownEffects.{IsShownAsBefore, PassShownFrom, TakesShownEffect}
 use Rattle.headline.specs.SpoolStates.{ArrivesAt, MayShow, SpoolState, IsInState, PassesStates, settled_at}
 use Rattle.headline.proofs.TableAfterLemmas.{one_table}
@@ -101,14 +101,16 @@ still_worlds_are_unbegun old new same = record {
       (λ image is. (record { from = image; was = is; same = refl; others = λ name other. refl }, refl));
 }
 
-pub acknowledged_events_are_whole : AcknowledgedEventsAreWhole
-acknowledged_events_are_whole are_steps Untouched old new is takes = let impossible : true ≡ false = is in cc
-acknowledged_events_are_whole are_steps (Partial table steps) old new is takes = let impossible : true ≡ false = is.0 in cc
-acknowledged_events_are_whole are_steps (Whole table steps) old new is takes = record {
+-- an event that was acknowledged made all of its steps, by whatever relation these are its steps
+pub acknowledged_events_are_whole : (AreSteps : JobTable → List Step → Type 0) (effect : Effect) (old new : World) →
+    IsEffectOf true AreSteps effect → TakesEffect effect old new → IsEventWhole AreSteps old new
+acknowledged_events_are_whole AreSteps Untouched old new is takes = let impossible : true ≡ false = is in cc
+acknowledged_events_are_whole AreSteps (Partial table steps) old new is takes = let impossible : true ≡ false = is.0 in cc
+acknowledged_events_are_whole AreSteps (Whole table steps) old new is takes = record {
   table = table;
   steps = steps;
   are = is;
   shown = takes.1.begun.shown;
   stand = takes.1.whole;
 }
-acknowledged_events_are_whole are_steps (Crashed image) old new is takes = absurd is
+acknowledged_events_are_whole AreSteps (Crashed image) old new is takes = absurd is

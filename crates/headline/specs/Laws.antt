@@ -1,5 +1,5 @@
 -- What holds of all events, whatever they are of.
-use Rattle.std.specs.Prelude.{◌≡◌, ◌↔◌, ◌++◌, [], ◌∷◌, Bool, List, true}
+use Rattle.std.specs.Prelude.{◌≡◌, ◌↔◌, ◌++◌, [], ◌∷◌, List}
 use Rattle.host_calls.specs.Directory.{Directory}
 use Rattle.host_calls.specs.World.{World, reading}
 use Rattle.spool_model.specs.declared.step.Step.{Step}
@@ -9,7 +9,7 @@ use Rattle.spool_shows.specs.Shown.{Shows}
 use Rattle.step_runs.specs.Attempts.{IsUnbegun}
 use Rattle.step_runs.specs.Current.{EachShows}
 use Rattle.headline.specs.Headline.{Headline}
-use Rattle.headline.specs.Effects.{Effect, IsEffectOf, Whole, TakesEffect, PassFrom, Passed, world_after}
+use Rattle.headline.specs.Effects.{Effect, Whole, TakesEffect, PassFrom, Passed, world_after}
 use Rattle.headline.specs.ShownEffects.{PassShownFrom, TakesShownEffect}
 use Rattle.headline.specs.SpoolStates.{SpoolState, IsInState, PassesStates, settled_at}
 
@@ -47,20 +47,14 @@ abbrev pub AchievedStepsStand : Type 0
 AchievedStepsStand = (table : JobTable) (steps : List Step) (old new : World) → TakesEffect (Whole table steps) old new →
     EachShows new.now.directory (after_steps table steps)
 
--- All steps of an event were made: they are its steps, by this test, on the table that the reading showed, and each image
--- shows the table after them.
-pub record IsEventWhole (are_steps : JobTable → List Step → Bool) (old new : World) : Type 0 where
+-- All steps of an event were made: they are its steps, by this relation, on the table that the reading showed, and each
+-- image shows the table after them.
+pub record IsEventWhole (AreSteps : JobTable → List Step → Type 0) (old new : World) : Type 0 where
   pub table : JobTable
   pub steps : List Step
-  pub are : are_steps table steps ≡ true
+  pub are : AreSteps table steps
   pub shown : Shows (reading old) table
   pub stand : EachShows new.now.directory (after_steps table steps)
-
--- an event that was acknowledged made all of its steps
-abbrev pub AcknowledgedEventsAreWhole : Type 0
-AcknowledgedEventsAreWhole = (are_steps : JobTable → List Step → Bool) (effect : Effect) (old new : World) →
-    IsEffectOf true (λ table steps. are_steps table steps ≡ true) effect → TakesEffect effect old new →
-    IsEventWhole are_steps old new
 
 -- events pass after others
 abbrev pub EventsPassOn : Type 0

@@ -1,5 +1,5 @@
 //! What holds of all events, each law as the contract of a function.
-ghost use Rattle.headline.specs.Laws.{AchievedStepsStand, AcknowledgedEventsAreWhole, EffectsAreShown, EventsHandOnce, EventsPassOn, LaterEventsLeave, SettledDirectoriesShowTheirTable, ShownEventsHandOnce, HostsReadTables, StillWorldsAreUnbegun};
+ghost use Rattle.headline.specs.Laws.{AchievedStepsStand, EffectsAreShown, EventsHandOnce, EventsPassOn, LaterEventsLeave, SettledDirectoriesShowTheirTable, ShownEventsHandOnce, HostsReadTables, StillWorldsAreUnbegun};
 
 /// Over all events no script is started twice, or before its start survives every crash, and the host is in the state
 /// where the events leave it.
@@ -11,11 +11,6 @@ pub fn events_hand_once()
 pub fn shown_events_hand_once()
     ensures events { ShownEventsHandOnce }
     ensures effects { EffectsAreShown }
-{}
-
-/// What was acknowledged made all of its steps.
-pub fn acknowledged_events_are_whole()
-    ensures { AcknowledgedEventsAreWhole }
 {}
 
 /// A host that is at a table finds no damage.

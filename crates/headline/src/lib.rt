@@ -14,7 +14,4 @@
 
 mod laws;
 
-pub use laws::{
-    acknowledged_events_are_whole, events_hand_once, events_pass_on, hosts_read_tables,
-    shown_events_hand_once,
-};
+pub use laws::{events_hand_once, events_pass_on, hosts_read_tables, shown_events_hand_once};

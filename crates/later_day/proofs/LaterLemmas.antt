@@ -82,7 +82,7 @@ takes_of_jobs Beside old new takes = record {
   now = λ image is. beside_of_jobs old.now image new.now.handed (takes.now image is);
 }
 
-pass_of_jobs : (old : World) (events : List LaterPassed) → LaterPassFrom old events → PassShownFrom (only_jobs old) (passed_jobs events)
+pub pass_of_jobs : (old : World) (events : List LaterPassed) → LaterPassFrom old events → PassShownFrom (only_jobs old) (passed_jobs events)
 pass_of_jobs old [] pass = tt
 pass_of_jobs old (event ∷ later) pass = (takes_of_jobs event.effect old event.left pass.0, pass_of_jobs event.left later pass.1)
 

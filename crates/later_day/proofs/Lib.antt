@@ -11,5 +11,6 @@ pub mod PromiseLemmas
 pub mod ReadyLemmas
 pub mod RestLemmas
 pub mod StartedJobs
+pub mod StayOverLemmas
 pub mod TakenLemmas
 pub mod UnreportedLemmas

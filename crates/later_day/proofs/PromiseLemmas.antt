@@ -1,14 +1,13 @@
 -- Outcomes one after another keep the promise.
-use Rattle.std.proofs.Common.{◌≡◌, ◌<◌, ℕ, List, [], ◌∷◌, get_or, length, map, refl, subst, sym, arith}
-use Rattle.std.specs.Prelude.{AllPairs}
-use Rattle.std.proofs.lemmas.List.{get_or-map, length-map}
+use Rattle.std.proofs.Common.{ℕ, List, [], ◌∷◌, map, refl}
+use Rattle.host_calls.specs.World.{World}
 use Rattle.at_day.specs.declared.event.Event.{Event}
 use Rattle.at_day.specs.declared.events_report.EventReport.{EventReport}
 use Rattle.later_day.specs.LaterEffects.{LaterPassFrom, LeavesTheRest}
 use Rattle.later_day.proofs.LaterLemmas.{later_events_hand_once}
 use Rattle.at_mail.specs.Once.{MailEvent, MailEvents, a_session, another, next_event, no_event}
 use Rattle.at_mail.proofs.OnceLemmas.{notices_are_handed_once}
-use Rattle.cron_session.specs.Minutes.{AcceptApart, Beside, CronEvent, CronPassFrom, CronPassed, Ended, MayAcceptAt, PassesAs}
+use Rattle.cron_session.specs.Minutes.{AcceptApart, Beside, CronEvent, CronPassFrom, CronPassed, Ended, MayAcceptAt, NoneAcceptsAt, PassesAs}
 use Rattle.cron_session.proofs.MinuteLemmas.{no_minute_comes_twice}
 use Rattle.later_day.specs.SessionsPass.{PassesBeside}
 use Rattle.later_day.proofs.CronLemmas.{cron_sessions_pass}
@@ -24,7 +23,7 @@ use Rattle.later_day.specs.declared.later.Later.TheVariants.{Day, Post, Cron}
 use Rattle.later_day.specs.LaterEventEffects.{IsLaterEvent, LaterHappens, cron_of_event}
 use Rattle.later_day.specs.LaterMachines.{LaterMachine, later_spool, post_at}
 use Rattle.later_day.specs.LaterOutcomes.{AreLaterDoneOn, LaterOutcome, later_machine_after, later_passed_of}
-use Rattle.later_day.specs.LaterPromise.{HasAcceptedAt, HaveAcceptedApart}
+use Rattle.later_day.specs.LaterPromise.{HasAcceptedAt, HaveAcceptedApart, NoneHasAcceptedAt}
 use Rattle.later_day.specs.Laws.{LaterOutcomesKeepTheirPromise}
 use Rattle.later_day.proofs.OutcomeLemmas.{day_outcomes_pass}
 
@@ -122,30 +121,30 @@ cron_pass_from first (outcome ∷ later) done = (
 )
 
 -- a session that accepted a job is one that may have accepted one
-may_accept : (minute : ℕ) (event : Later) (entry : LaterEntry) → HasAcceptedAt minute event entry →
-    MayAcceptAt minute (cron_event event entry)
-may_accept minute (Cron context zone entries now) (known.Cron report) accepted = accepted
-may_accept minute (Cron context zone entries now) (known.Day report) accepted = absurd accepted
-may_accept minute (Cron context zone entries now) (known.Post report) accepted = absurd accepted
-may_accept minute (Day event) entry accepted = absurd accepted
-may_accept minute Post entry accepted = absurd accepted
+may_accept : (minute : ℕ) (event : Later) (entry : LaterEntry) (old new : World) → HasAcceptedAt minute event entry old new →
+    MayAcceptAt minute (cron_event event entry) old new
+may_accept minute (Cron context zone entries now) (known.Cron report) old new accepted = accepted
+may_accept minute (Cron context zone entries now) (known.Day report) old new accepted = absurd accepted
+may_accept minute (Cron context zone entries now) (known.Post report) old new accepted = absurd accepted
+may_accept minute (Day event) entry old new accepted = absurd accepted
+may_accept minute Post entry old new accepted = absurd accepted
 
-accepted_apart : (first second : LaterOutcome) → AcceptApart (cron_passed first) (cron_passed second) →
-    HaveAcceptedApart first second
-accepted_apart first second apart minute one other =
-    apart minute (may_accept minute first.event first.entry one) (may_accept minute second.event second.entry other)
+none_accepted : (minute : ℕ) (old : LaterMachine) (outcomes : List LaterOutcome) →
+    NoneAcceptsAt minute (later_spool old) (map cron_passed outcomes) → NoneHasAcceptedAt minute old outcomes
+none_accepted minute old [] none = tt
+none_accepted minute old (outcome ∷ later) none = (
+  λ accepted. none.0 (may_accept minute outcome.event outcome.entry (later_spool old) (later_spool outcome.left) accepted),
+  none_accepted minute outcome.left later none.1,
+)
 
-all_apart : (outcomes : List LaterOutcome) → AllPairs AcceptApart (map cron_passed outcomes) → AllPairs HaveAcceptedApart outcomes
-all_apart outcomes pairs i j d before within =
-    let within_map : j < length (map cron_passed outcomes) = subst (λ (count : ℕ). j < count) (sym (length-map outcomes cron_passed)) within in
-    let at_i : get_or (map cron_passed outcomes) i (cron_passed d) ≡ cron_passed (get_or outcomes i d) =
-    get_or-map cron_passed outcomes i d (cron_passed d) (omega (arith, before, within)) in
-    let at_j : get_or (map cron_passed outcomes) j (cron_passed d) ≡ cron_passed (get_or outcomes j d) =
-    get_or-map cron_passed outcomes j d (cron_passed d) within in
-    accepted_apart (get_or outcomes i d) (get_or outcomes j d)
-    (subst (λ (one : CronPassed). AcceptApart one (cron_passed (get_or outcomes j d))) at_i
-    (subst (λ (other : CronPassed). AcceptApart (get_or (map cron_passed outcomes) i (cron_passed d)) other) at_j
-    (pairs i j (cron_passed d) before within_map)))
+all_apart : (old : LaterMachine) (outcomes : List LaterOutcome) → AcceptApart (later_spool old) (map cron_passed outcomes) →
+    HaveAcceptedApart old outcomes
+all_apart old [] apart = tt
+all_apart old (outcome ∷ later) apart = (
+  λ minute accepted. none_accepted minute outcome.left later
+      (apart.0 minute (may_accept minute outcome.event outcome.entry (later_spool old) (later_spool outcome.left) accepted)),
+  all_apart outcome.left later apart.1,
+)
 
 -- All of it.
 
@@ -156,5 +155,5 @@ later_outcomes_keep_their_promise first outcomes done = record {
   notices = λ whole.
       notices_are_handed_once (later_spool first) (later_spool (later_machine_after first outcomes)) whole
       (mail_events first first outcomes no_event done);
-  minutes = all_apart outcomes (no_minute_comes_twice (map cron_passed outcomes) (later_spool first) (cron_pass_from first outcomes done));
+  minutes = all_apart first outcomes (no_minute_comes_twice (map cron_passed outcomes) (later_spool first) (cron_pass_from first outcomes done));
 }

@@ -3,7 +3,8 @@ use Rattle.std.specs.Prelude.{List}
 use Rattle.host_calls.specs.World.{World}
 use Rattle.spool_model.specs.JobTable.{JobTable}
 use Rattle.step_runs.specs.Current.{EachShows}
-use Rattle.headline.specs.Effects.{Effect, TakesEffect, steps_begun}
+use Rattle.at_mail.specs.Events.{NoneLivesAgain}
+use Rattle.headline.specs.Effects.{Effect, TakesEffect, steps_begun, world_after}
 use Rattle.headline.specs.Headline.{Headline}
 use Rattle.mail_notes.specs.declared.note.Note.{Note}
 use Rattle.mail_notes.specs.Hands.{Mailing}
@@ -25,3 +26,9 @@ SessionsGoBeside = (of : Mailing) (notes new_ones : List Note) (table : JobTable
 abbrev pub EffectsLeaveTheRest : Type 0
 EffectsLeaveTheRest = (effect : Effect) (old new : World) → DoOneThing (steps_begun effect) → TakesEffect effect old new →
     LeavesTheRest old new
+
+-- Where each image shows a table, as it does once a trim has recovered, no job that is over in it lives in what the
+-- directory shows after any events.
+abbrev pub JobsStayOver : Type 0
+JobsStayOver = (table : JobTable) (events : List LaterPassed) (old : World) → EachShows old.now.directory table →
+    LaterPassFrom old events → NoneLivesAgain table (world_after (only_jobs old) (passed_jobs events))

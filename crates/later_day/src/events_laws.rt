@@ -1,5 +1,5 @@
 //! What holds of sessions among the events of a day, each law as the contract of a function.
-ghost use Rattle.later_day.specs.EffectLaws.{EffectsLeaveTheRest, LaterEventsHandOnce, SessionsGoBeside};
+ghost use Rattle.later_day.specs.EffectLaws.{EffectsLeaveTheRest, JobsStayOver, LaterEventsHandOnce, SessionsGoBeside};
 ghost use Rattle.later_day.specs.EventsLaws.{BesideTheStorePass, CronSessionsPass, MailSessionsPass};
 
 /// Over all events, notices of mail among them, no script of a job is started twice, or before its start survives every
@@ -7,6 +7,11 @@ ghost use Rattle.later_day.specs.EventsLaws.{BesideTheStorePass, CronSessionsPas
 pub fn later_events_hand_once()
     ensures events { LaterEventsHandOnce }
     ensures sessions { SessionsGoBeside }
+{}
+
+/// Where each image shows a table, no job that is finished in it lives in what the directory shows after any events.
+pub fn jobs_stay_over()
+    ensures { JobsStayOver }
 {}
 
 /// What a command or a turn does leaves all files alone that are none of the store's, those of mail and of crontabs among

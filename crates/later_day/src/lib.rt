@@ -33,8 +33,8 @@ pub use cron_text::Entries;
 pub use days::later_day;
 pub use entry::LaterEntry;
 pub use events_laws::{
-    beside_the_store_pass, cron_sessions_pass, effects_leave_the_rest, later_events_hand_once,
-    mail_sessions_pass,
+    beside_the_store_pass, cron_sessions_pass, effects_leave_the_rest, jobs_stay_over,
+    later_events_hand_once, mail_sessions_pass,
 };
 pub use job_script::Context;
 pub use later::Later;

@@ -11,9 +11,8 @@ use Rattle.spool_faults.specs.Listed.{LeavesDirectory}
 use Rattle.spool_faults.specs.Plan.{IsPlanOf}
 use Rattle.spool_faults.specs.Salvaged.{salvaged}
 use Rattle.spool_check.specs.inside.CopiedFiles.{EachHasFile, EachHasCopies, IsBare, HasOneImage, IsCopyName}
-use Rattle.spool_check.specs.SalvageOutcome.{EachShowsSalvaged, HasSalvage, IsSalvaging, is_of_spool, is_spool}
+use Rattle.spool_check.specs.SalvageOutcome.{EachShowsSalvaged, HasSalvage, IsSalvaging, IsUnfinished, is_of_spool, is_spool}
 use Rattle.spool_check.specs.declared.fault.SalvageFault.{SalvageFault}
-use Rattle.spool_shows.specs.Laws.{ShowsNoEntry}
 use Rattle.spool_shows.specs.Shown.{Shows}
 use Rattle.spool_shows.proofs.NameLemmas.{job_name_apart, journal_apart, journal_no_job, sequence_apart, sequence_no_job, temporary_no_job, differ_by}
 use Rattle.spool_shows.proofs.ShownHeaders.{directories_without_sequence_show_no_entry}
@@ -27,9 +26,9 @@ use Rattle.spool_check.proofs.BareDirectories.{bare_each, copy_of_spool, either_
 use Rattle.spool_check.proofs.CopyLemmas.{alone_end, alone_on, kept_each}
 use Rattle.spool_check.proofs.PlanLemmas.{is_salvage, salvages_show}
 
--- The table, or no entry.
+-- The table, or no sequence file and no entry.
 abbrev ShowsPart : Files → Files → Type 0
-ShowsPart files image = ShowsNoEntry image ⊎ Shows image (salvaged files)
+ShowsPart files image = IsUnfinished image ⊎ Shows image (salvaged files)
 
 -- Whole calls.
 
@@ -54,10 +53,14 @@ salvaging_then files may_change Q start middle new of alone shows before after =
     })
     before after
 
+-- a directory without a sequence file shows no entry, whatever else it has
+unfinished : (image : Files) → map.get image sequence_file ≡ None → IsUnfinished image
+unfinished image none = record { no_sequence = none; shows = directories_without_sequence_show_no_entry image none }
+
 -- what is left alone and had no sequence file has none, and shows no entry
-no_entry_left : (may_change : List ℕ → Type 0) (directory : Directory) (image : Files) → ¬ (may_change sequence_file) → EachHasFile sequence_file None directory → LeavesOthers may_change directory image → ShowsNoEntry image
+no_entry_left : (may_change : List ℕ → Type 0) (directory : Directory) (image : Files) → ¬ (may_change sequence_file) → EachHasFile sequence_file None directory → LeavesOthers may_change directory image → IsUnfinished image
 no_entry_left may_change directory image other none left =
-    directories_without_sequence_show_no_entry image (left.others sequence_file other ∙ none left.from left.was)
+    unfinished image (left.others sequence_file other ∙ none left.from left.was)
 
 no_copy : (name : List ℕ) → ¬ (name ≡ temporary_file) → job_named name ≡ None → ¬ (IsCopyName name)
 no_copy name not_temp none copy = elim copy [
@@ -155,7 +158,7 @@ filled_shows files names journal sequence directory image plan has copies left p
 
 sequence_shows : (files : Files) (names : List (List ℕ)) (journal sequence : List ℕ) (directory : Directory) (image : Files) → IsPlanOf files names journal sequence → HasJournal journal directory → EachHasCopies files names directory → IsPlacing temporary_file sequence_file sequence directory image → ShowsPart files image
 sequence_shows files names journal sequence directory image plan has copies placing = elim placing.placed [
-  | inl same ↦ inl (directories_without_sequence_show_no_entry image (same ∙ has.no_sequence placing.alone.from placing.alone.was))
+  | inl same ↦ inl (unfinished image (same ∙ has.no_sequence placing.alone.from placing.alone.was))
   | inr new ↦ inr (filled_shows files names journal sequence directory image plan has copies placing.alone new)
 ]
 

@@ -1,5 +1,5 @@
 -- What a salvage leaves in the new directory (own).
-use Rattle.std.specs.Prelude.{◌≡◌, ◌⊎◌, ◌||◌, ℕ, Bool, true, false, List, is_some}
+use Rattle.std.specs.Prelude.{◌≡◌, ◌⊎◌, ◌||◌, ℕ, Bool, true, false, List, None, is_some}
 use Rattle.std.specs.FinMap as map
 use Rattle.std.specs.List.{list_any}
 use Rattle.std.specs.Str.{bytes_eq}
@@ -29,11 +29,16 @@ pub record IsTargetRefused (old new : World) : Type 0 where
   pub spool : is_spool (reading old) ≡ true
   pub leaves : LeavesDirectory old new
 
--- The image is one of the start, or shows no job, or shows the table that is saved of the files; and files that are not
--- the spool's are left alone.
+-- The image is one of a salvage that has yet to place the sequence file, which is placed last: it has none, and shows no job.
+pub record IsUnfinished (image : Files) : Type 0 where
+  pub no_sequence : map.get image sequence_file ≡ None
+  pub shows : ShowsNoEntry image
+
+-- The image is one of the start, or has no sequence file yet and shows no job, or shows the table that is saved of the
+-- files; and files that are not the spool's are left alone.
 pub record IsSalvaging (files : Files) (start : Directory) (image : Files) : Type 0 where
   pub alone : LeavesOthers (λ name. is_of_spool name ≡ true) start image
-  pub shows : IsImage start image ⊎ (ShowsNoEntry image ⊎ Shows image (salvaged files))
+  pub shows : IsImage start image ⊎ (IsUnfinished image ⊎ Shows image (salvaged files))
 
 -- each image of the directory shows the table that is saved of the files
 abbrev pub EachShowsSalvaged : Files → Directory → Type 0

@@ -1,5 +1,5 @@
-//! The program of atcheck: lines of all faults, salvage on request. Every fault is printed before anything is saved, and at
-//! each moment the new directory shows no job or the saved table; the old one is unchanged.
+//! The program of atcheck: lines of all faults, salvage on request. If a line cannot be written nothing is saved, and at each
+//! moment the new directory shows no job or the saved table; the old one is unchanged.
 //!
 //! Its definitions are what a reader of `check_program` believes. In the order in which to read them:
 //! 1. `Words`: what the words request
@@ -9,7 +9,7 @@
 //!
 //! A salvage writes the journal first, then the files of jobs, each a copy, and the sequence file last. A directory without a
 //! sequence file shows no job, whatever else it has, so a crash on the way leaves a directory that shows no job, or all
-//! that is saved.
+//! that is saved. A second salvage refuses such a directory from its first file on.
 #![tactic(auto)]
 
 mod copying;

@@ -17,12 +17,12 @@ use Rattle.cron_session.specs.Steps.{next_numbers, submissions}
 use Rattle.whole_file.specs.TempFiles.{IsDurableAt}
 use Rattle.cron_session.specs.inside.Submissions.{IsPartOf, CronPart}
 
--- where it was stopped, an image of the end is unmarked before the first job and shows the table, or has the mark and shows
--- the table after what was made, and a prefix of the next submission
+-- where it was stopped, an image of the end is unmarked, where no job was begun, and shows the table, or has the mark and
+-- shows the table after what was made, and a prefix of the next submission
 abbrev pub EachHasCome : ℕ → JobTable → CronPart → World → World → Type 0
 EachHasCome minute table part old new =
     (image : Files) → IsImage new.now.directory image →
-    ((part.made ≡ []) × IsUnmarked old.now.directory image × Shows image table)
+    ((part.made ++ part.next ≡ []) × IsUnmarked old.now.directory image × Shows image table)
     ⊎ HasCome minute table (submissions table.last part.made) (submissions (table.last + length part.made) part.next) image
 
 -- what each image of the end is, by the answer
