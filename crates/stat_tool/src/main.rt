@@ -2,7 +2,7 @@
 #![tactic(auto)]
 
 use process_input::held_streams;
-use real_programs::{run_stat, stat_exit_code};
+use real_programs::{Program, UNCHECKED, exit_code, run_alone};
 use std::process::ExitCode;
 
 // The name under which is said why the program could not begin.
@@ -11,5 +11,5 @@ const TOOL: &str = "atstat";
 fn main(rt: HostRuntime) -> ExitCode {
     // They stay held until the end: what is opened in between must not become a standard stream.
     let _streams = held_streams(&rt);
-    stat_exit_code(&rt, TOOL, run_stat(&rt))
+    exit_code(&rt, TOOL, run_alone(&rt, Program::Stat, UNCHECKED))
 }
