@@ -33,6 +33,14 @@ impl<R: RawSystem + Drop> TracedSystem<R> {
         }
     }
 
+    /// The system without the record.
+    pub fn into_raw(self) -> R
+        ensures { result ≡ self.raw }
+    {
+        let TracedSystem { raw, made: _ } = self;
+        raw
+    }
+
     // Records a call.
     fn note(&mut self, path: &str, answered: Answered, bytes: &[u8])
         ensures made { AddsCall (called path.now answered bytes.now) self.old.made.calls self.new.made.calls }
@@ -50,7 +58,9 @@ impl<R: RawSystem + Drop> System for TracedSystem<R> {
     ghost trace = { λ own. own.made.calls };
 
     fn status(&mut self, path: &str) -> Option<FileStatus>
+        /// Each question is recorded with its answer.
         ensures made { AddsCall (status_call path.now result) self.old.made.calls self.new.made.calls }
+        /// It is asked once, of the same path, and the answer is the system's.
         ensures below { IsTrue R.tells
             → AddsCall (status_call path.now result) (R.trace self.old.raw) (R.trace self.new.raw) }
     {
