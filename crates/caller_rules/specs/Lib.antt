@@ -1,0 +1,10 @@
+pub mod DaemonLocks
+pub mod DaemonRequests
+pub mod FileStatuses
+pub mod MachineLists
+pub mod OwnSpool
+pub mod Permission
+pub mod SpoolPaths
+pub mod ToolSpools
+pub mod Tools
+pub mod Users
