@@ -1,0 +1,93 @@
+//! A program without the launcher, as the mains run it.
+ghost use Rattle.std.specs.Prelude.{◌≡◌, ◌<◌, IfOk};
+ghost use Rattle.host_calls.specs.Session.{IsOutside};
+ghost use Rattle.real_programs.specs.Made.{IsDirectoryAt};
+ghost use Rattle.real_programs.specs.ProgramRuns.{IsProgramRun};
+ghost use Rattle.real_programs.specs.Alone.{IsRunAlone};
+
+use crate::directories::RealDirectory;
+use crate::program::Program;
+use crate::program_exit::ProgramExit;
+use crate::made::{RealSystem, real_system};
+use crate::run::run_program;
+use crate::streams::{RealClock, RealErrors, RealInput, RealOutput, real_clock};
+use crate::system_plan::SystemPlan;
+use crate::witnesses::Witnesses;
+use host_calls::{Host, Inputs, Readings, Sink, Text};
+use memory_host::MemoryHost;
+use process_input::{StartupError, caller_of, process_words, take_directory, variable_or};
+use std::alloc::AllocError;
+use unix_host::Waits;
+use witnessed_host::{InputWitness, Witness};
+
+// Where jobs are if no variable names another directory.
+const SPOOL: &str = "/var/spool/atjobs";
+
+// The directory of a program whose words name none: its words request nothing, so it is never entered.
+const NO_SPOOL: &str = "/";
+
+/// A program that ended, and what it worked with.
+#[derive(Drop)]
+pub struct RunAlone<W: Witness + Drop, V: InputWitness + Drop> {
+    pub exit: ProgramExit,
+    pub system: RealSystem<W, V>,
+}
+
+/// Runs a program by the words of this process, next to these witnesses. The spool is that of `ATSPOOL`, or the usual one,
+/// of the commands and of atstat; and of the others the one that the first word names. The second word names where a
+/// salvage writes. Without a word that names a directory these others do nothing, and create none.
+pub fn run_alone<W: Witness + Drop, V: InputWitness + Drop>(
+    rt: &HostRuntime,
+    program: Program,
+    witnesses: Witnesses<W, V>,
+) -> Result<RunAlone<W, V>, StartupError>
+    ensures { IfOk result (λ alone. IsRunAlone ⟦<RealDirectory<W> as Host>⟧ ⟦<MemoryHost as Host>⟧
+        ⟦<RealClock as Readings>⟧ ⟦<RealInput<V> as Inputs>⟧ ⟦<RealOutput as Sink>⟧ ⟦<RealErrors as Sink>⟧
+        program witnesses alone.system alone.exit) }
+{
+    let mut words = process_words(rt)?;
+    let caller = caller_of(rt)?;
+    let plan = plan_of(rt, program, &mut words)?;
+    let clock = real_clock(rt)?;
+    let mut system = real_system(rt, program, plan, clock, witnesses)?;
+    let exit = run_program(rt.alloc(), program, &words, &caller, &mut system)?;
+    Ok(RunAlone { exit, system })
+}
+
+// The directories of a program, whose names are taken out of its words.
+fn plan_of(
+    rt: &HostRuntime,
+    program: Program,
+    words: &mut Vec<String>,
+) -> Result<SystemPlan, AllocError> {
+    match program {
+        Program::Commands | Program::Stat => Ok(plan(variable_or(rt, "ATSPOOL", SPOOL)?, None)),
+        _ => named_plan(rt, program, words),
+    }
+}
+
+// The same of a program whose first words name them. Where none does its words are dropped, so it requests nothing.
+fn named_plan(
+    rt: &HostRuntime,
+    program: Program,
+    words: &mut Vec<String>,
+) -> Result<SystemPlan, AllocError> {
+    let Some(spool) = take_directory(words) else {
+        words.clear();
+        return Ok(plan(Text::of(rt.alloc(), NO_SPOOL)?, None));
+    };
+    let target = if program == Program::Check {
+        take_directory(words).map(Text::from)
+    } else {
+        None
+    };
+    Ok(plan(Text::from(spool), target))
+}
+
+fn plan(spool: Text, target: Option<Text>) -> SystemPlan {
+    SystemPlan {
+        spool,
+        target,
+        waits: Waits::Asking,
+    }
+}
