@@ -2,4 +2,4 @@ pub mod Descriptions
 pub mod ExitCodes
 pub mod Locks
 pub mod Marks
-pub mod ToolEnds
+pub mod ToolRuns

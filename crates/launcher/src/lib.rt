@@ -22,7 +22,7 @@ mod send_program;
 mod spool_trouble;
 mod start;
 mod tool_called;
-mod tool_end;
+mod tool_run;
 
 pub use start::run_tool_by_name;
 pub use tool_called::called_as;

@@ -1,10 +1,12 @@
 -- How a program runs over what it is lent, by which program it is (own).
-use Rattle.std.specs.Prelude.{◌≡◌, ◌<◌, ℕ, Bool, true, false, List, Option, Some}
+use Rattle.std.specs.Prelude.{◌≡◌, ℕ, List, Some}
 use Rattle.at_stat.specs.declared.status.StatExit.{StatExit}
 use Rattle.host_calls.specs.declared.host.Host as host
 use Rattle.host_calls.specs.declared.inputs.Inputs as inputs
 use Rattle.host_calls.specs.declared.readings.Readings as readings
 use Rattle.host_calls.specs.declared.sink.Sink as sink
+use Rattle.listing_text.specs.Cause.{code_of, status_of}
+use Rattle.listing_text.specs.declared.cause.Cause.{Cause}
 use Rattle.listing_text.specs.declared.status.Status.{Status}
 use Rattle.memory_host.specs.declared.host.MemoryHost.{MemoryHost}
 use Rattle.real_programs.specs.CheckRuns.{IsCheckRun}
@@ -31,6 +33,26 @@ EndsWith Holds exit = (status : Status) × (exit ≡ exit_of status) × Holds st
 -- atstat ended with an exit of which this holds
 abbrev pub StatEndsWith : (StatExit → Type 0) → ProgramExit → Type 0
 StatEndsWith Holds exit = (status : StatExit) × (exit ≡ stat_exit_of status) × Holds status
+
+-- the exit has the code of its cause
+abbrev pub IsExitOfCause : ProgramExit → Type 0
+IsExitOfCause exit = (cause : Cause) × (exit ≡ exit_of (status_of cause))
+
+-- atstat's has it where it has a cause
+abbrev pub IsExitOfStat : ProgramExit → Type 0
+IsExitOfStat exit = (cause : Cause) → exit.cause ≡ Some cause → exit.code ≡ code_of cause
+
+-- the exit is one of the program
+abbrev pub IsExitOf : Program → ProgramExit → Type 0
+IsExitOf Commands exit = IsExitOfCause exit
+IsExitOf Stat exit = IsExitOfStat exit
+IsExitOf Post exit = IsExitOfCause exit
+IsExitOf Trim exit = IsExitOfCause exit
+IsExitOf PostAfterTrim exit = IsExitOfCause exit
+IsExitOf Cron exit = IsExitOfCause exit
+IsExitOf Next exit = IsExitOfCause exit
+IsExitOf Account exit = IsExitOfCause exit
+IsExitOf Check exit = IsExitOfCause exit
 
 -- the program ran by these words, for this caller, and ended with this exit
 abbrev pub IsProgramRun : {D C I O E : Type 0} → host.Ghosts D → host.Ghosts MemoryHost → readings.Ghosts C →

@@ -1,15 +1,10 @@
 //! A program without the launcher, as the mains run it.
-ghost use Rattle.std.specs.Prelude.{◌≡◌, ◌<◌, IfOk};
-ghost use Rattle.host_calls.specs.Session.{IsOutside};
-ghost use Rattle.real_programs.specs.Made.{IsDirectoryAt};
-ghost use Rattle.real_programs.specs.ProgramRuns.{IsProgramRun};
-ghost use Rattle.real_programs.specs.Alone.{IsRunAlone};
+ghost use Rattle.std.specs.Prelude.{IfOk};
+ghost use Rattle.real_programs.specs.RealRuns.{IsRunAlone};
 
 use crate::directories::RealDirectory;
 use crate::program::Program;
-use crate::program_exit::ProgramExit;
-use crate::made::{RealSystem, real_system};
-use crate::run::run_program;
+use crate::real_run::{RealRun, run_on_real_system};
 use crate::streams::{RealClock, RealErrors, RealInput, RealOutput, real_clock};
 use crate::system_plan::SystemPlan;
 use crate::witnesses::Witnesses;
@@ -26,13 +21,6 @@ const SPOOL: &str = "/var/spool/atjobs";
 // The directory of a program whose words name none: its words request nothing, so it is never entered.
 const NO_SPOOL: &str = "/";
 
-/// A program that ended, and what it worked with.
-#[derive(Drop)]
-pub struct RunAlone<W: Witness + Drop, V: InputWitness + Drop> {
-    pub exit: ProgramExit,
-    pub system: RealSystem<W, V>,
-}
-
 /// Runs a program by the words of this process, next to these witnesses. The spool is that of `ATSPOOL`, or the usual one,
 /// of the commands and of atstat; and of the others the one that the first word names. The second word names where a
 /// salvage writes. Without a word that names a directory these others do nothing, and create none.
@@ -40,18 +28,17 @@ pub fn run_alone<W: Witness + Drop, V: InputWitness + Drop>(
     rt: &HostRuntime,
     program: Program,
     witnesses: Witnesses<W, V>,
-) -> Result<RunAlone<W, V>, StartupError>
-    ensures { IfOk result (λ alone. IsRunAlone ⟦<RealDirectory<W> as Host>⟧ ⟦<MemoryHost as Host>⟧
+) -> Result<RealRun<W, V>, StartupError>
+    ensures { IfOk result (λ ran. IsRunAlone ⟦<RealDirectory<W> as Host>⟧ ⟦<MemoryHost as Host>⟧
         ⟦<RealClock as Readings>⟧ ⟦<RealInput<V> as Inputs>⟧ ⟦<RealOutput as Sink>⟧ ⟦<RealErrors as Sink>⟧
-        program witnesses alone.system alone.exit) }
+        program witnesses ran.system ran.exit) }
 {
     let mut words = process_words(rt)?;
     let caller = caller_of(rt)?;
     let plan = plan_of(rt, program, &mut words)?;
     let clock = real_clock(rt)?;
-    let mut system = real_system(rt, program, plan, clock, witnesses)?;
-    let exit = run_program(rt.alloc(), program, &words, &caller, &mut system)?;
-    Ok(RunAlone { exit, system })
+    let ran = run_on_real_system(rt, program, &words, &caller, plan, clock, witnesses)?;
+    Ok(ran)
 }
 
 // The directories of a program, whose names are taken out of its words.

@@ -15,6 +15,7 @@ mod exit;
 mod post;
 mod program;
 mod program_exit;
+mod real_run;
 mod made;
 mod run;
 mod stat;
@@ -25,7 +26,7 @@ mod target;
 mod witnesses;
 
 pub use account::run_account;
-pub use alone::{RunAlone, run_alone};
+pub use alone::run_alone;
 pub use check::run_check;
 pub use commands::run_commands;
 pub use cron::{run_cron, run_next};
@@ -35,6 +36,7 @@ pub use post::{run_post, run_post_after_trim, run_trim};
 pub use program::Program;
 pub use program_exit::ProgramExit;
 pub use made::{RealSystem, real_system};
+pub use real_run::{RealRun, run_on_real_system};
 pub use run::run_program;
 pub use stat::run_stat;
 pub use streams::{

@@ -1,7 +1,7 @@
 //! Each program, by cases.
 ghost use Rattle.std.specs.Prelude.{◌≡◌, ◌<◌, IfOk, OnErr, map, string_bytes};
 ghost use Rattle.host_calls.specs.Session.{IsOutside};
-ghost use Rattle.real_programs.specs.ProgramRuns.{IsProgramRun};
+ghost use Rattle.real_programs.specs.ProgramRuns.{IsExitOf, IsProgramRun};
 ghost use Rattle.real_programs.specs.Systems.{IsTargetOutside};
 
 use crate::account::run_account;
@@ -31,6 +31,7 @@ pub fn run_program<D: Host, C: Readings, I: Inputs, O: Sink, E: Sink>(
     requires umask { caller.now.context.umask < 512 }
     ensures run { IfOk result (λ exit. IsProgramRun D.Host ⟦<MemoryHost as Host>⟧ C.Readings I.Inputs O.Sink E.Sink
         program (map string_bytes words.now) caller.now system.old system.new exit) }
+    ensures code { IfOk result (IsExitOf program) }
     ensures unrun { OnErr result (system.new ≡ system.old) }
 {
     let status = match program {
