@@ -1,8 +1,8 @@
 -- How a tool runs over its spool (own).
 use Rattle.std.specs.Prelude.{◌≡◌, ◌∷◌, ℕ, Bool, true, false, List, Option, Some, None, codes}
-use Rattle.std.specs.Str.{bytes_eq}
 use Rattle.caller_environment.specs.declared.tool_name.ToolName.{ToolName}
 use Rattle.caller_environment.specs.declared.tool_name.ToolName.TheVariants.{At, Batch, Atq, Atrm, Atd, Atday, Atpost, Atcron, Ataccount, Atcheck, Atstat}
+use Rattle.caller_rules.specs.DaemonStarts.{begins_trim}
 use Rattle.host_calls.specs.declared.host.Host as host
 use Rattle.host_calls.specs.declared.inputs.Inputs as inputs
 use Rattle.host_calls.specs.declared.readings.Readings as readings
@@ -23,11 +23,6 @@ use Rattle.unix_host.specs.declared.host.UnixHost.{UnixHost}
 use Rattle.witnessed_host.specs.declared.noted_sink.NotedSink.{NotedSink}
 use Rattle.witnessed_host.specs.declared.witnessed.Witnessed.{Witnessed}
 use Rattle.witnessed_host.specs.declared.witnessed_inputs.WitnessedInputs.{WitnessedInputs}
-
--- the words of atpost request a trim, by the one after its name
-abbrev pub asks_for_trim : List (List ℕ) → Bool
-asks_for_trim (name ∷ word ∷ later) = bytes_eq word (codes "--trim")
-asks_for_trim _ = false
 
 -- the program of atpost: a trim where its words request one, sessions after a trim, or sessions
 abbrev pub post_program_by : Bool → Bool → Program
@@ -61,7 +56,7 @@ pub record HasToolRun {W V R A B C D E F G I O S L : Type 0} (h : host.Ghosts (W
   pub plan : SystemPlan
   pub clock : L
   pub spool_is : plan.spool ≡ spool
-  pub ran : IsRealRun h m r i o e (program_by tool (asks_for_trim words) first) words caller plan clock witnesses left exit
+  pub ran : IsRealRun h m r i o e (program_by tool (begins_trim words) first) words caller plan clock witnesses left exit
 
 -- the tool ran so, or another one kept it from the spool and nothing ran
 abbrev pub IsToolRun : {W V R A B C D E F G I O S L : Type 0} → host.Ghosts (Witnessed (UnixHost R A B C D E F G) W) →
