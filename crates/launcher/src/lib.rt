@@ -6,14 +6,15 @@
 
 mod after_submission;
 mod built_record;
+mod caller_with;
 mod clock_mark;
 mod disk_probe;
 mod exit_codes;
 mod held_locks;
+mod invoker;
+mod launch;
 mod lock_wait;
-mod machine_daemon;
 mod note_trims;
-mod one_daemon;
 mod programs;
 mod refusal;
 mod say_hint;
@@ -21,8 +22,10 @@ mod self_description;
 mod send_program;
 mod spool_trouble;
 mod start;
+mod submission;
 mod tool_called;
 mod tool_run;
+mod user;
 
 pub use start::run_tool_by_name;
 pub use tool_called::called_as;

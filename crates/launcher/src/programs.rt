@@ -1,19 +1,18 @@
 //! Each tool over its spool, by the program that has it.
 ghost use Rattle.std.specs.Prelude.{◌≡◌, ◌<◌, Bool, IfOk, map, string_bytes};
 ghost use Rattle.std.specs.Path.{IsAbsolute};
-ghost use Rattle.launcher.specs.ExitCodes.{IsExitCode, IsExitCodeOf};
-ghost use Rattle.listing_text.specs.Cause.{status_of};
-ghost use Rattle.listing_text.specs.declared.cause.Cause.TheVariants.{Busy};
-ghost use Rattle.real_programs.specs.ProgramRuns.{exit_of};
-ghost use Rattle.launcher.specs.ToolRuns.{IsToolRun, asks_for_trim, post_program_by, program_by};
+ghost use Rattle.launcher.specs.ExitCodes.{IsExitCodeOf};
+ghost use Rattle.caller_rules.specs.DaemonStarts.{begins_trim};
+ghost use Rattle.launcher.specs.ToolRuns.{IsToolRun, post_program_by, program_by};
 
+use crate::clock_mark::warn_of_mark;
+use crate::invoker::Invoker;
 use crate::lock_wait::lock_wait;
-use crate::note_trims::{asks_for_trim, has_option, trims_at_start};
-use crate::one_daemon::{DaemonLock, atd_lock, daemon_lock};
+use crate::note_trims::trims_at_start;
 use crate::refusal::refuse_tool;
 use crate::tool_run::ToolRun;
 use caller_environment::ToolName;
-use caller_spool::{Invoker, SpoolPaths, is_same_directory};
+use caller_rules::{SpoolPaths, begins_trim, is_same_directory};
 use host_calls::{Host, Inputs, Name, Readings, Sink, Text};
 use listing_text::Cause;
 use memory_host::MemoryHost;
@@ -24,14 +23,16 @@ use real_programs::{
 };
 use sequence_file::sequence_name;
 use start_journal::journal_name;
-use std::alloc::AllocError;
+use std::alloc::{AllocError, Global};
 use std::path::Path;
+use system_calls::System;
 use witnessed_host::{InputWitness, Witness};
 
 /// Does what the words of a tool request over its spool, next to these witnesses. The paths are those of the spool, where
 /// it exists. The program runs once, unless another one keeps the tool from the spool.
-pub fn run_tool_on<W: Witness + Drop, V: InputWitness + Drop>(
+pub fn run_tool_on<S: System, W: Witness + Drop, V: InputWitness + Drop>(
     rt: &HostRuntime,
+    system: &mut S,
     tool: ToolName,
     words: &mut Vec<String>,
     invoker: &Invoker,
@@ -45,34 +46,21 @@ pub fn run_tool_on<W: Witness + Drop, V: InputWitness + Drop>(
     ensures code { IfOk result (λ run. IsExitCodeOf tool run.exit.code) }
 {
     let target = target_of(tool, words);
-    // It is held until the end.
-    let lock = lock_of(rt, tool, words, paths)?;
-    if matches!(&lock, DaemonLock::Taken) || saves_into_itself(rt, tool, words, paths, &target) {
-        return Ok(ToolRun {
-            exit: busy(rt, tool),
-            system: None,
-        });
+    if saves_into_itself(system, tool, words, paths, &target) {
+        return Ok(ToolRun::kept_out(ProgramExit::of(refuse_tool(rt, tool, Cause::Busy))));
     }
-    let program = program_of(rt, tool, words, spool.as_str())?;
+    if tool == ToolName::Atcron {
+        warn_of_mark(system, rt.alloc(), spool.as_str())?;
+    }
+    let program = program_of(system, rt.alloc(), tool, words, spool.as_str())?;
     let clock = tool_clock(rt, tool, paths)?;
     let plan = SystemPlan {
         spool,
         target,
-        waits: lock_wait(rt),
+        waits: lock_wait(system),
     };
     let ran = run_on_real_system(rt, program, words, &invoker.caller, plan, clock, witnesses)?;
-    Ok(ToolRun {
-        exit: ran.exit,
-        system: Some(ran.system),
-    })
-}
-
-// Says that another program holds the spool.
-fn busy(rt: &HostRuntime, tool: ToolName) -> ProgramExit
-    ensures exit { result ≡ exit_of (status_of Busy) }
-    ensures code { IsExitCode result.code }
-{
-    ProgramExit::of(refuse_tool(rt, tool, Cause::Busy))
+    Ok(ToolRun::ran(ran))
 }
 
 // The directory into which the words of atcheck salvage, which is taken out of them.
@@ -85,8 +73,8 @@ fn target_of(tool: ToolName, words: &mut Vec<String>) -> Option<Text> {
 }
 
 // Whether both words of atcheck name one directory: it would wait for itself.
-fn saves_into_itself(
-    rt: &HostRuntime,
+fn saves_into_itself<S: System>(
+    system: &mut S,
     tool: ToolName,
     words: &[String],
     paths: &Option<SpoolPaths>,
@@ -95,48 +83,25 @@ fn saves_into_itself(
     match (tool, words, paths, target) {
         (ToolName::Atcheck, [_, word], Some(paths), Some(target)) => {
             word.as_str() == "--salvage"
-                && is_same_directory(rt, paths.spool.as_str(), target.as_str())
+                && is_same_directory(system, paths.spool.as_str(), target.as_str())
         }
         _ => false,
     }
 }
 
-// Takes the locks of a daemon, where its spool exists: of atd always, and of another one where its words have the option
-// without which it works once.
-fn lock_of(
-    rt: &HostRuntime,
-    tool: ToolName,
-    words: &[String],
-    paths: &Option<SpoolPaths>,
-) -> Result<DaemonLock, AllocError> {
-    let Some(paths) = paths else {
-        return Ok(DaemonLock::Held(None, None));
-    };
-    let is_daemon = match tool {
-        ToolName::Atd => return atd_lock(rt, paths),
-        ToolName::Atpost => has_option(words, "--send") && !asks_for_trim(words),
-        ToolName::Atcron => has_option(words, "-f"),
-        _ => false,
-    };
-    if is_daemon {
-        daemon_lock(rt, tool, paths)
-    } else {
-        Ok(DaemonLock::Held(None, None))
-    }
-}
-
 // The program of a tool by its words. An atpost without an end trims its notes first, where there are notes.
-fn program_of(
-    rt: &HostRuntime,
+fn program_of<S: System>(
+    system: &mut S,
+    alloc: Global,
     tool: ToolName,
     words: &[String],
     spool: &str,
 ) -> Result<Program, AllocError>
     ensures { IfOk result (λ program. (first : Bool) ×
-        (program ≡ program_by tool (asks_for_trim (map string_bytes words.now)) first)) }
+        (program ≡ program_by tool (begins_trim (map string_bytes words.now)) first)) }
 {
-    let trims_first = tool == ToolName::Atpost && trims_at_start(rt, words, spool)?;
-    Ok(program_by(tool, asks_for_trim(words), trims_first))
+    let trims_first = tool == ToolName::Atpost && trims_at_start(system, alloc, words, spool)?;
+    Ok(program_by(tool, begins_trim(words), trims_first))
 }
 
 fn program_by(tool: ToolName, is_trim: bool, trims_first: bool) -> Program

@@ -4,8 +4,8 @@ ghost use Rattle.launcher.specs.ExitCodes.{IsExitCode};
 ghost use Rattle.listing_text.specs.Cause.{status_of};
 
 use crate::exit_codes::exit_code_of;
+use crate::invoker::PROCESS_STATUS;
 use caller_environment::ToolName;
-use caller_spool::PROCESS_STATUS;
 use listing_text::{Cause, Status, cause_line};
 use std::str;
 

@@ -6,10 +6,12 @@ ghost use Rattle.launcher.specs.ExitCodes.{IsExitCode};
 use crate::built_record::built_record;
 use crate::exit_codes::exit_code_of;
 use crate::refusal::{refuse_tool, refuse_unknown_caller};
+use crate::invoker::user_of_process;
 use caller_environment::ToolName;
-use caller_spool::{callers_spool, user_of_process};
+use caller_rules::callers_spool;
 use listing_text::Cause;
 use std::alloc::AllocError;
+use system_calls::System;
 use tool_help::{help_text, version_text};
 
 /// What a tool is asked to print of itself.
@@ -45,7 +47,12 @@ fn description_of(word: &str) -> Option<Description>
 }
 
 /// Prints it. Answers the exit status.
-pub fn describe(rt: &HostRuntime, tool: ToolName, asked: Description) -> Result<u8, AllocError>
+pub fn describe<S: System>(
+    rt: &HostRuntime,
+    system: &mut S,
+    tool: ToolName,
+    asked: Description,
+) -> Result<u8, AllocError>
     ensures { IfOk result IsExitCode }
 {
     match asked {
@@ -55,17 +62,21 @@ pub fn describe(rt: &HostRuntime, tool: ToolName, asked: Description) -> Result<
             let text = version_text(rt.alloc(), tool, record.as_ref().map(|it| it.as_bytes()))?;
             Ok(put_description(rt, tool, text.as_slice()))
         }
-        Description::Spool => put_spool(rt, tool),
+        Description::Spool => put_spool(rt, system, tool),
     }
 }
 
-fn put_spool(rt: &HostRuntime, tool: ToolName) -> Result<u8, AllocError>
+fn put_spool<S: System>(
+    rt: &HostRuntime,
+    system: &mut S,
+    tool: ToolName,
+) -> Result<u8, AllocError>
     ensures { IfOk result IsExitCode }
 {
     let Some(user) = user_of_process(rt)? else {
         return Ok(refuse_unknown_caller(rt, tool));
     };
-    let spool = callers_spool(rt, &user)?;
+    let spool = callers_spool(system, rt.alloc(), &user)?;
     let line = format!(in rt.alloc(); "{}\n", spool.path.as_str())?;
     Ok(put_description(rt, tool, line.as_bytes()))
 }

@@ -3,26 +3,24 @@ ghost use Rattle.std.specs.Prelude.{◌≡◌, ◌<◌, IfOk};
 ghost use Rattle.launcher.specs.ExitCodes.{IsExitCode, IsExitCodeOf};
 ghost use Rattle.real_programs.specs.declared.program.Program.TheVariants.{Stat};
 
-use crate::after_submission::{after_submission, is_submission};
-use crate::clock_mark::warn_of_mark;
+use crate::after_submission::after_submission;
 use crate::exit_codes::exit_code_of;
+use crate::invoker::{Invoker, invoker_of};
+use crate::launch::launch;
 use crate::lock_wait::lock_wait;
-use crate::programs::run_tool_on;
-use crate::refusal::{refuse_tool, refuse_unknown_caller};
+use crate::refusal::refuse_unknown_caller;
 use crate::say_hint::say_hint;
 use crate::self_description::{describe, description_asked};
 use crate::send_program::unusable_program;
-use crate::tool_run::ToolRun;
-use caller_environment::{ToolName, take_tool};
-use caller_spool::{
-    CallingUser, Invoker, LISTS, ToolSpool, invoker_of, make_own, may_call, may_save_into,
-    may_work_on, paths_of, spool_of,
-};
+use crate::submission::is_submission;
+use caller_environment::{SpoolSource, ToolName, row_of_tool, take_tool};
+use caller_rules::{CallingUser, LISTS, ToolSpool, callers_spool};
 use host_calls::Text;
 use listing_text::{Cause, Refusal};
-use process_input::{StartupError, caller_of, process_words};
-use real_programs::{Program, ProgramExit, SystemPlan, Witnesses, real_clock, run_on_real_system};
-use std::alloc::AllocError;
+use process_input::{StartupError, caller_of, process_words, take_directory};
+use real_programs::{Program, SystemPlan, Witnesses, real_clock, run_on_real_system};
+use std::alloc::{AllocError, Global};
+use system_calls::{ProcessSystem, System, TracedSystem};
 use tool_output::Caller;
 use witnessed_host::{InputWitness, Witness};
 
@@ -35,7 +33,9 @@ pub fn run_tool_by_name<W: Witness + Drop, V: InputWitness + Drop>(
     let Some(tool) = take_tool(&mut words) else {
         return Ok(no_tool(rt));
     };
-    Ok(run_tool(rt, tool, &mut words, witnesses)?)
+    // It keeps the locks of a daemon until the end.
+    let mut system = TracedSystem::new(ProcessSystem::new(*rt));
+    Ok(run_tool(rt, &mut system, tool, &mut words, witnesses)?)
 }
 
 // Says that the words name no tool.
@@ -47,8 +47,9 @@ fn no_tool(rt: &HostRuntime) -> u8
 }
 
 // Does what the words of this tool request.
-fn run_tool<W: Witness + Drop, V: InputWitness + Drop>(
+fn run_tool<S: System, W: Witness + Drop, V: InputWitness + Drop>(
     rt: &HostRuntime,
+    system: &mut S,
     tool: ToolName,
     words: &mut Vec<String>,
     witnesses: Witnesses<W, V>,
@@ -56,20 +57,20 @@ fn run_tool<W: Witness + Drop, V: InputWitness + Drop>(
     ensures { IfOk result (IsExitCodeOf tool) }
 {
     if let Some(asked) = description_asked(words) {
-        return Ok(describe(rt, tool, asked)?);
+        return Ok(describe(rt, system, tool, asked)?);
     }
     if tool == ToolName::Atday {
         let caller = caller_of(rt)?;
-        return run_without_spool(rt, Program::Commands, words, &caller, witnesses);
+        return run_without_spool(rt, system, Program::Commands, words, &caller, witnesses);
     }
     let Some(invoker) = invoker_of(rt)? else {
         return Ok(refuse_unknown_caller(rt, tool));
     };
     if tool == ToolName::Atcron && asks_for_next(words) {
-        return run_without_spool(rt, Program::Next, words, &invoker.caller, witnesses);
+        return run_without_spool(rt, system, Program::Next, words, &invoker.caller, witnesses);
     }
-    let spool = spool_of(rt, tool, words, &invoker.user)?;
-    run_on_spool(rt, tool, words, &invoker, &spool, witnesses)
+    let spool = spool_of(system, rt.alloc(), tool, words, &invoker.user)?;
+    run_on_spool(rt, system, tool, words, &invoker, &spool, witnesses)
 }
 
 // Whether the words of atcron ask when the entries of a crontab are due next.
@@ -78,8 +79,9 @@ fn asks_for_next(words: &[String]) -> bool {
 }
 
 // A day is made in memory, and minutes are listed, with no spool: its directory is never entered.
-fn run_without_spool<W: Witness + Drop, V: InputWitness + Drop>(
+fn run_without_spool<S: System, W: Witness + Drop, V: InputWitness + Drop>(
     rt: &HostRuntime,
+    system: &mut S,
     program: Program,
     words: &[String],
     caller: &Caller,
@@ -92,16 +94,37 @@ fn run_without_spool<W: Witness + Drop, V: InputWitness + Drop>(
     let plan = SystemPlan {
         spool: Text::of(rt.alloc(), "/")?,
         target: None,
-        waits: lock_wait(rt),
+        waits: lock_wait(system),
     };
     let clock = real_clock(rt)?;
     let ran = run_on_real_system(rt, program, words, caller, plan, clock, witnesses)?;
     Ok(ran.exit.code)
 }
 
-// Does what the words of a tool request over its spool, where the user may.
-fn run_on_spool<W: Witness + Drop, V: InputWitness + Drop>(
+// The spool of a tool: the one that its first word names, where the tool has such a word, or else the caller's. The word is
+// removed.
+fn spool_of<S: System>(
+    system: &mut S,
+    alloc: Global,
+    tool: ToolName,
+    words: &mut Vec<String>,
+    user: &CallingUser,
+) -> Result<ToolSpool, AllocError> {
+    if row_of_tool(tool).spool == SpoolSource::FirstWord {
+        if let Some(path) = take_directory(words) {
+            return Ok(ToolSpool {
+                path: Text::from(path),
+                is_own: false,
+            });
+        }
+    }
+    callers_spool(system, alloc, user)
+}
+
+// Does what the words of a tool request on its spool, where the user may.
+fn run_on_spool<S: System, W: Witness + Drop, V: InputWitness + Drop>(
     rt: &HostRuntime,
+    system: &mut S,
     tool: ToolName,
     words: &mut Vec<String>,
     invoker: &Invoker,
@@ -110,35 +133,37 @@ fn run_on_spool<W: Witness + Drop, V: InputWitness + Drop>(
 ) -> Result<u8, AllocError>
     ensures { IfOk result (IsExitCodeOf tool) }
 {
-    let user = &invoker.user;
-    if !may_call(rt, tool, user) {
-        let status = refuse_tool(rt, tool, Cause::Refused(Refusal::NotAllowed));
-        say_hint(rt, tool, &status.cause, user, spool, LISTS)?;
-        return Ok(exit_code_of(&status.cause));
-    }
     if tool == ToolName::Atpost && refuses_program(rt, words) {
         return Ok(exit_code_of(&Cause::Refused(Refusal::Usage)));
     }
-    let run = run_permitted(rt, tool, words, invoker, spool, witnesses)?;
+    let run = launch(rt, system, tool, words, invoker, spool, witnesses)?;
     if let Some(cause) = &run.exit.cause {
-        follow(rt, tool, words, cause, user, spool)?;
+        let lists = if run.system.is_none() {
+            LISTS
+        } else {
+            spool.path.as_str()
+        };
+        follow(rt, system, tool, words, cause, &invoker.user, spool, lists)?;
     }
     Ok(run.exit.code)
 }
 
-// What follows the end of a tool for this cause: a submission that was accepted requests an atd, and a refusal has a hint.
-fn follow(
+// What follows the end of a tool for this cause: a warning where no atd will run the job that was accepted, and a hint after a
+// refusal, which names the lists of this directory.
+fn follow<S: System>(
     rt: &HostRuntime,
+    system: &mut S,
     tool: ToolName,
     words: &[String],
     cause: &Cause,
     user: &CallingUser,
     spool: &ToolSpool,
+    lists: &str,
 ) -> Result<(), AllocError> {
-    if cause.is_done() && is_submission(rt, tool, words) {
-        after_submission(rt, tool, user, spool)?;
+    if cause.is_done() && is_submission(rt.alloc(), tool, words) {
+        after_submission(system, rt.alloc(), tool, user, spool)?;
     }
-    say_hint(rt, tool, cause, user, spool, spool.path.as_str())
+    say_hint(rt, system, tool, cause, user, spool, lists)
 }
 
 // Says so where the program of notices can't be executed.
@@ -150,51 +175,4 @@ fn refuses_program(rt: &HostRuntime, words: &[String]) -> bool {
         }
         None => false,
     }
-}
-
-// The same, where neither the lists of the machine nor the words refuse it.
-fn run_permitted<W: Witness + Drop, V: InputWitness + Drop>(
-    rt: &HostRuntime,
-    tool: ToolName,
-    words: &mut Vec<String>,
-    invoker: &Invoker,
-    spool: &ToolSpool,
-    witnesses: Witnesses<W, V>,
-) -> Result<ToolRun<W, V>, AllocError>
-    ensures { IfOk result (λ run. IsExitCodeOf tool run.exit.code) }
-{
-    let user = &invoker.user;
-    if !make_own(rt, user, spool) {
-        return Ok(ToolRun {
-            exit: faulted(rt, tool),
-            system: None,
-        });
-    }
-    let paths = paths_of(rt, spool.path.as_str())?;
-    if let Some(paths) = &paths {
-        if !may_work_on(rt, tool, user, paths) {
-            return Ok(ToolRun {
-                exit: faulted(rt, tool),
-                system: None,
-            });
-        }
-    }
-    if tool == ToolName::Atcheck && !may_save_into(rt, words, user)? {
-        return Ok(ToolRun {
-            exit: faulted(rt, tool),
-            system: None,
-        });
-    }
-    if tool == ToolName::Atcron {
-        warn_of_mark(rt, spool.path.as_str())?;
-    }
-    let path = Text::of(rt.alloc(), spool.path.as_str())?;
-    run_tool_on(rt, tool, words, invoker, path, &paths, witnesses)
-}
-
-// Says that the tool may not use its spool.
-fn faulted(rt: &HostRuntime, tool: ToolName) -> ProgramExit
-    ensures { IsExitCode result.code }
-{
-    ProgramExit::of(refuse_tool(rt, tool, Cause::FileFault))
 }

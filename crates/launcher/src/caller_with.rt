@@ -2,7 +2,7 @@
 ghost use Rattle.std.specs.Prelude.{◌≡◌, ◌<◌, IfOk, option_copied};
 ghost use Rattle.caller_environment.specs.Variables.{job_variables};
 ghost use Rattle.civil_minute.specs.ZoneText.{IsZoneOf};
-ghost use Rattle.caller_spool.specs.Zones.{zone_text};
+ghost use Rattle.launcher.specs.Zones.{zone_text};
 
 use caller_environment::{CallerSettings, job_variables};
 use civil_minute::{Zone, zone_of};

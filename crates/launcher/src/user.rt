@@ -1,31 +1,12 @@
 //! The user who calls.
-use crate::spool_paths::is_directory_of;
 use caller_environment::{home_in, name_in_user_line, user_line, user_number_in};
+use caller_rules::CallingUser;
 use host_calls::Text;
 use process_input::{variable, variable_or};
 use std::alloc::AllocError;
+use std::os::unix::fs::MetadataExt;
 use std::process::Command;
 use std::{fs, str};
-
-/// The user who calls.
-#[derive(Drop)]
-pub struct CallingUser {
-    /// The number by which the system knows them. None where the system does not report it.
-    pub number: Option<u32>,
-    pub name: Text,
-    /// The home directory, where it exists and is the user's own.
-    pub home: Option<Text>,
-}
-
-impl CallingUser {
-    /// Whether it is root.
-    pub fn is_root(&self) -> bool {
-        match self.number {
-            Some(number) => number == 0,
-            None => self.name.as_str() == "root",
-        }
-    }
-}
 
 /// The user of the process with this status. The entry in the table of users has the name and the home directory, and
 /// without one the variables `LOGNAME` and `HOME`.
@@ -56,6 +37,13 @@ pub fn calling_user(rt: &HostRuntime, status: &[u8]) -> Result<CallingUser, Allo
 fn own_home(rt: &HostRuntime, home: Text, number: u32) -> Option<Text> {
     let is_own = is_directory_of(rt, home.as_str(), number);
     Some(home).filter(|_| is_own)
+}
+
+fn is_directory_of(rt: &HostRuntime, path: &str, user: u32) -> bool {
+    match fs::metadata(rt, path) {
+        Ok(found) => found.is_dir() && found.uid() == user,
+        Err(_) => false,
+    }
 }
 
 // The name and the home directory of a user, by the table of the machine, or else by the place where the system looks

@@ -1,0 +1,69 @@
+//! A tool on its spool, from the lists of the machine to its end.
+ghost use Rattle.std.specs.Prelude.{◌≡◌, ◌<◌, IfOk, map, string_bytes};
+ghost use Rattle.launcher.specs.ExitCodes.{IsExitCodeOf};
+ghost use Rattle.launcher.specs.Launches.{Launches};
+ghost use Rattle.listing_text.specs.Cause.{status_of};
+ghost use Rattle.real_programs.specs.ProgramRuns.{exit_of};
+
+use crate::invoker::Invoker;
+use crate::programs::run_tool_on;
+use crate::refusal::refuse_tool;
+use crate::submission::is_submission;
+use crate::tool_run::ToolRun;
+use caller_environment::ToolName;
+use caller_rules::{Admission, ToolSpool, admit};
+use host_calls::{Host, Inputs, Readings, Sink, Text};
+use listing_text::{Cause, Refusal};
+use memory_host::MemoryHost;
+use real_programs::{
+    ProgramExit, RealClock, RealDirectory, RealErrors, RealInput, RealOutput, Witnesses,
+};
+use std::alloc::AllocError;
+use system_calls::System;
+use witnessed_host::{InputWitness, Witness};
+
+/// Does what the words of a tool request on its spool, where its caller may, next to these witnesses.
+pub fn launch<S: System, W: Witness + Drop, V: InputWitness + Drop>(
+    rt: &HostRuntime,
+    system: &mut S,
+    tool: ToolName,
+    words: &mut Vec<String>,
+    invoker: &Invoker,
+    spool: &ToolSpool,
+    witnesses: Witnesses<W, V>,
+) -> Result<ToolRun<W, V>, AllocError>
+    ensures launch { IfOk result (λ run. Launches ⟦<RealDirectory<W> as Host>⟧ ⟦<MemoryHost as Host>⟧
+        ⟦<RealClock as Readings>⟧ ⟦<RealInput<V> as Inputs>⟧ ⟦<RealOutput as Sink>⟧ ⟦<RealErrors as Sink>⟧
+        tool (map string_bytes words.old.items) (map string_bytes words.new.items) invoker.now.user invoker.now.caller
+        spool.now witnesses (S.trace system.old) (S.trace system.new) run.system run.exit) }
+    ensures code { IfOk result (λ run. IsExitCodeOf tool run.exit.code) }
+{
+    let submits = is_submission(rt.alloc(), tool, words);
+    let admission = admit(
+        system,
+        rt.alloc(),
+        tool,
+        words,
+        submits,
+        &invoker.user,
+        spool,
+    )?;
+    match admission {
+        Admission::Refused => {
+            Ok(ToolRun::kept_out(refusal(rt, tool, Cause::Refused(Refusal::NotAllowed))))
+        }
+        Admission::KeptOut => Ok(ToolRun::kept_out(refusal(rt, tool, Cause::FileFault))),
+        Admission::Busy => Ok(ToolRun::kept_out(refusal(rt, tool, Cause::Busy))),
+        Admission::Admitted(paths) => {
+            let path = Text::of(rt.alloc(), spool.path.as_str())?;
+            run_tool_on(rt, system, tool, words, invoker, path, &paths, witnesses)
+        }
+    }
+}
+
+// Says why a tool does not run. Answers its end.
+fn refusal(rt: &HostRuntime, tool: ToolName, cause: Cause) -> ProgramExit
+    ensures { result ≡ exit_of (status_of cause) }
+{
+    ProgramExit::of(refuse_tool(rt, tool, cause))
+}
