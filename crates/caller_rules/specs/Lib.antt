@@ -1,10 +1,13 @@
+pub mod Admissions
 pub mod DaemonLocks
 pub mod DaemonRequests
+pub mod DaemonStarts
 pub mod FileStatuses
 pub mod MachineLists
 pub mod OwnSpool
 pub mod Permission
 pub mod SpoolPaths
+pub mod SpoolUses
 pub mod ToolSpools
 pub mod Tools
 pub mod Users

@@ -106,7 +106,11 @@ fn directory_in(word: &str) -> Option<&str>
     }
 }
 
-fn may_work_where<S: System>(system: &mut S, user: Option<u32>, paths: &Option<SpoolPaths>) -> bool
+pub(crate) fn may_work_where<S: System>(
+    system: &mut S,
+    user: Option<u32>,
+    paths: &Option<SpoolPaths>,
+) -> bool
     ensures { IsJudgedWhere paths.now user (S.trace system.old) (S.trace system.new) result }
 {
     match paths {

@@ -17,9 +17,9 @@ use Rattle.listing_text.specs.Cause.{status_of}
 use Rattle.listing_text.specs.declared.cause.Cause.{Cause}
 use Rattle.listing_text.specs.declared.cause.Cause.TheVariants.{Refused, FileFault, Busy}
 use Rattle.listing_text.specs.declared.refusal.Refusal.TheVariants.{NotAllowed}
-use Rattle.memory_host.specs.declared.host.MemoryHost.{MemoryHost}
+use Rattle.memory_host.specs.declared.memory_host.MemoryHost.{MemoryHost}
 use Rattle.real_programs.specs.declared.program_exit.ProgramExit.{ProgramExit}
-use Rattle.real_programs.specs.declared.system.System.{System}
+use Rattle.real_programs.specs.declared.system.ProgramSystem.{ProgramSystem}
 use Rattle.real_programs.specs.declared.witnesses.Witnesses.{Witnesses}
 use Rattle.real_programs.specs.ProgramRuns.{exit_of}
 use Rattle.system_calls.specs.SystemCall.{SystemCall}
@@ -43,7 +43,7 @@ pub record IsLaunched {W V R A B C D E F G I O S L : Type 0} (h : host.Ghosts (W
     (m : host.Ghosts MemoryHost) (r : readings.Ghosts L) (i : inputs.Ghosts (WitnessedInputs I V))
     (o : sink.Ghosts (NotedSink O)) (e : sink.Ghosts (NotedSink S)) (tool : ToolName) (words own_words : List (List ℕ))
     (user : CallingUser) (caller : Caller) (spool : ToolSpool) (witnesses : Witnesses W V) (old new : List SystemCall)
-    (left : Option (System (Witnessed (UnixHost R A B C D E F G) W) L (WitnessedInputs I V) (NotedSink O) (NotedSink S)))
+    (left : Option (ProgramSystem (Witnessed (UnixHost R A B C D E F G) W) L (WitnessedInputs I V) (NotedSink O) (NotedSink S)))
     (exit : ProgramExit) : Type 0 where
   pub submits : Bool
   pub paths : Option SpoolPaths
@@ -53,13 +53,13 @@ pub record IsLaunched {W V R A B C D E F G I O S L : Type 0} (h : host.Ghosts (W
 
 -- How a tool ends that was launched by these words, of which the program has its own: the lists of the machine refuse it, the
 -- spool is not its caller's, another daemon works on it, or it ran.
-abbrev pub Launches : {W V R A B C D E F G I O S L : Type 0} → host.Ghosts (Witnessed (UnixHost R A B C D E F G) W) →
+abbrev pub EndsLaunch : {W V R A B C D E F G I O S L : Type 0} → host.Ghosts (Witnessed (UnixHost R A B C D E F G) W) →
     host.Ghosts MemoryHost → readings.Ghosts L → inputs.Ghosts (WitnessedInputs I V) → sink.Ghosts (NotedSink O) →
     sink.Ghosts (NotedSink S) → ToolName → List (List ℕ) → List (List ℕ) → CallingUser → Caller → ToolSpool → Witnesses W V →
     List SystemCall → List SystemCall →
-    Option (System (Witnessed (UnixHost R A B C D E F G) W) L (WitnessedInputs I V) (NotedSink O) (NotedSink S)) →
+    Option (ProgramSystem (Witnessed (UnixHost R A B C D E F G) W) L (WitnessedInputs I V) (NotedSink O) (NotedSink S)) →
     ProgramExit → Type 0
-Launches h m r i o e tool words own_words user caller spool witnesses old new left exit =
+EndsLaunch h m r i o e tool words own_words user caller spool witnesses old new left exit =
     IsTurnedAway tool words user spool admission.Refused (Refused NotAllowed) old new left exit
     ⊎ (IsTurnedAway tool words user spool admission.KeptOut FileFault old new left exit
     ⊎ (IsTurnedAway tool words user spool admission.Busy Busy old new left exit

@@ -1,8 +1,8 @@
 -- How a tool runs over its spool (own).
 use Rattle.std.specs.Prelude.{◌≡◌, ◌∷◌, ℕ, Bool, true, false, List, Option, Some, None, codes}
-use Rattle.std.specs.Str.{bytes_eq}
 use Rattle.caller_environment.specs.declared.tool_name.ToolName.{ToolName}
 use Rattle.caller_environment.specs.declared.tool_name.ToolName.TheVariants.{At, Batch, Atq, Atrm, Atd, Atday, Atpost, Atcron, Ataccount, Atcheck, Atstat}
+use Rattle.caller_rules.specs.DaemonStarts.{begins_trim}
 use Rattle.host_calls.specs.declared.host.Host as host
 use Rattle.host_calls.specs.declared.inputs.Inputs as inputs
 use Rattle.host_calls.specs.declared.readings.Readings as readings
@@ -13,7 +13,7 @@ use Rattle.memory_host.specs.declared.memory_host.MemoryHost.{MemoryHost}
 use Rattle.real_programs.specs.declared.program.Program.{Program}
 use Rattle.real_programs.specs.declared.program.Program.TheVariants.{Commands, Stat, Post, Trim, PostAfterTrim, Cron, Account, Check}
 use Rattle.real_programs.specs.declared.program_exit.ProgramExit.{ProgramExit}
-use Rattle.real_programs.specs.declared.system.System.{System}
+use Rattle.real_programs.specs.declared.system.ProgramSystem.{ProgramSystem}
 use Rattle.real_programs.specs.declared.system_plan.SystemPlan.{SystemPlan}
 use Rattle.real_programs.specs.declared.witnesses.Witnesses.{Witnesses}
 use Rattle.real_programs.specs.ProgramRuns.{exit_of}
@@ -23,11 +23,6 @@ use Rattle.unix_host.specs.declared.host.UnixHost.{UnixHost}
 use Rattle.witnessed_host.specs.declared.noted_sink.NotedSink.{NotedSink}
 use Rattle.witnessed_host.specs.declared.witnessed.Witnessed.{Witnessed}
 use Rattle.witnessed_host.specs.declared.witnessed_inputs.WitnessedInputs.{WitnessedInputs}
-
--- the words of atpost request a trim, by the one after its name
-abbrev pub asks_for_trim : List (List ℕ) → Bool
-asks_for_trim (name ∷ word ∷ later) = bytes_eq word (codes "--trim")
-asks_for_trim _ = false
 
 -- the program of atpost: a trim where its words request one, sessions after a trim, or sessions
 abbrev pub post_program_by : Bool → Bool → Program
@@ -55,11 +50,11 @@ pub record HasToolRun {W V R A B C D E F G I O S L : Type 0} (h : host.Ghosts (W
     (m : host.Ghosts MemoryHost) (r : readings.Ghosts L) (i : inputs.Ghosts (WitnessedInputs I V))
     (o : sink.Ghosts (NotedSink O)) (e : sink.Ghosts (NotedSink S)) (tool : ToolName) (words : List (List ℕ))
     (caller : Caller) (spool : List ℕ) (witnesses : Witnesses W V)
-    (left : System (Witnessed (UnixHost R A B C D E F G) W) L (WitnessedInputs I V) (NotedSink O) (NotedSink S))
+    (left : ProgramSystem (Witnessed (UnixHost R A B C D E F G) W) L (WitnessedInputs I V) (NotedSink O) (NotedSink S))
     (exit : ProgramExit) : Type 0 where
   pub first : Bool
   pub program : Program
-  pub program_is : program ≡ program_by tool (asks_for_trim words) first
+  pub program_is : program ≡ program_by tool (begins_trim words) first
   pub plan : SystemPlan
   pub clock : L
   pub spool_is : plan.spool ≡ spool
@@ -69,7 +64,7 @@ pub record HasToolRun {W V R A B C D E F G I O S L : Type 0} (h : host.Ghosts (W
 abbrev pub IsToolRun : {W V R A B C D E F G I O S L : Type 0} → host.Ghosts (Witnessed (UnixHost R A B C D E F G) W) →
     host.Ghosts MemoryHost → readings.Ghosts L → inputs.Ghosts (WitnessedInputs I V) → sink.Ghosts (NotedSink O) →
     sink.Ghosts (NotedSink S) → ToolName → List (List ℕ) → Caller → List ℕ → Witnesses W V →
-    Option (System (Witnessed (UnixHost R A B C D E F G) W) L (WitnessedInputs I V) (NotedSink O) (NotedSink S)) →
+    Option (ProgramSystem (Witnessed (UnixHost R A B C D E F G) W) L (WitnessedInputs I V) (NotedSink O) (NotedSink S)) →
     ProgramExit → Type 0
 IsToolRun h m r i o e tool words caller spool witnesses None exit = exit ≡ exit_of (status_of Busy)
 IsToolRun h m r i o e tool words caller spool witnesses (Some left) exit =

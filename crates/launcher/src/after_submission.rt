@@ -35,8 +35,10 @@ fn has_daemon<S: System>(
         return Ok(true);
     };
     let within = path_within(alloc, paths.spool.as_str(), DAEMON_LOCK)?;
-    Ok(is_path_locked(system, alloc, within.as_str())?
-        || is_path_locked(system, alloc, paths.outputs.as_str())?)
+    Ok(
+        is_path_locked(system, alloc, within.as_str())?
+            || is_path_locked(system, alloc, paths.outputs.as_str())?,
+    )
 }
 
 // Whether any process holds a lock of what has this path.

@@ -10,11 +10,7 @@ use system_calls::{FileRead, System};
 const LONGEST_TABLE: u64 = 67_108_864;
 
 /// Whether the kernel's table of locks has one of the file of this inode. One that can't be read counts as if it had.
-pub fn is_locked<S: System>(
-    system: &mut S,
-    alloc: Global,
-    inode: u64,
-) -> Result<bool, AllocError> {
+pub fn is_locked<S: System>(system: &mut S, alloc: Global, inode: u64) -> Result<bool, AllocError> {
     let ending = field_ending(alloc, inode)?;
     match system.read_file("/proc/locks", LONGEST_TABLE) {
         FileRead::Whole(table) => Ok(has_lock(table.as_slice(), ending.as_bytes())),

@@ -3,8 +3,8 @@ ghost use Rattle.std.specs.Prelude.{◌<◌};
 
 use crate::caller_with::caller_by;
 use crate::user::calling_user;
-use caller_rules::CallingUser;
 use caller_environment::{CallerSettings, MAX_ZONE_FILE, rule_in, zone_file};
+use caller_rules::CallingUser;
 use host_calls::Text;
 use process_input::{environment_variables, umask_in, variable};
 use std::alloc::AllocError;

@@ -1,7 +1,7 @@
 //! A tool on its spool, from the lists of the machine to its end.
-ghost use Rattle.std.specs.Prelude.{◌≡◌, ◌<◌, IfOk, map, string_bytes};
+ghost use Rattle.std.specs.Prelude.{◌≡◌, ◌<◌, IfOk, None, map, string_bytes};
 ghost use Rattle.launcher.specs.ExitCodes.{IsExitCodeOf};
-ghost use Rattle.launcher.specs.Launches.{Launches};
+ghost use Rattle.launcher.specs.Launches.{EndsLaunch};
 ghost use Rattle.listing_text.specs.Cause.{status_of};
 ghost use Rattle.real_programs.specs.ProgramRuns.{exit_of};
 
@@ -32,7 +32,7 @@ pub fn launch<S: System, W: Witness + Drop, V: InputWitness + Drop>(
     spool: &ToolSpool,
     witnesses: Witnesses<W, V>,
 ) -> Result<ToolRun<W, V>, AllocError>
-    ensures launch { IfOk result (λ run. Launches ⟦<RealDirectory<W> as Host>⟧ ⟦<MemoryHost as Host>⟧
+    ensures launch { IfOk result (λ run. EndsLaunch ⟦<RealDirectory<W> as Host>⟧ ⟦<MemoryHost as Host>⟧
         ⟦<RealClock as Readings>⟧ ⟦<RealInput<V> as Inputs>⟧ ⟦<RealOutput as Sink>⟧ ⟦<RealErrors as Sink>⟧
         tool (map string_bytes words.old.items) (map string_bytes words.new.items) invoker.now.user invoker.now.caller
         spool.now witnesses (S.trace system.old) (S.trace system.new) run.system run.exit) }
@@ -49,11 +49,9 @@ pub fn launch<S: System, W: Witness + Drop, V: InputWitness + Drop>(
         spool,
     )?;
     match admission {
-        Admission::Refused => {
-            Ok(ToolRun::kept_out(refusal(rt, tool, Cause::Refused(Refusal::NotAllowed))))
-        }
-        Admission::KeptOut => Ok(ToolRun::kept_out(refusal(rt, tool, Cause::FileFault))),
-        Admission::Busy => Ok(ToolRun::kept_out(refusal(rt, tool, Cause::Busy))),
+        Admission::Refused => Ok(turned_away(rt, tool, Cause::Refused(Refusal::NotAllowed))),
+        Admission::KeptOut => Ok(turned_away(rt, tool, Cause::FileFault)),
+        Admission::Busy => Ok(turned_away(rt, tool, Cause::Busy)),
         Admission::Admitted(paths) => {
             let path = Text::of(rt.alloc(), spool.path.as_str())?;
             run_tool_on(rt, system, tool, words, invoker, path, &paths, witnesses)
@@ -61,9 +59,18 @@ pub fn launch<S: System, W: Witness + Drop, V: InputWitness + Drop>(
     }
 }
 
-// Says why a tool does not run. Answers its end.
-fn refusal(rt: &HostRuntime, tool: ToolName, cause: Cause) -> ProgramExit
-    ensures { result ≡ exit_of (status_of cause) }
+// Says why a tool does not run.
+fn turned_away<W: Witness + Drop, V: InputWitness + Drop>(
+    rt: &HostRuntime,
+    tool: ToolName,
+    cause: Cause,
+) -> ToolRun<W, V>
+    ensures exit { result.exit ≡ exit_of (status_of cause) }
+    ensures system { result.system ≡ None }
+    ensures code { IsExitCodeOf tool result.exit.code }
 {
-    ProgramExit::of(refuse_tool(rt, tool, cause))
+    ToolRun {
+        exit: ProgramExit::of(refuse_tool(rt, tool, cause)),
+        system: None,
+    }
 }

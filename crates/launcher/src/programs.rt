@@ -1,7 +1,10 @@
 //! Each tool over its spool, by the program that has it.
 ghost use Rattle.std.specs.Prelude.{◌≡◌, ◌<◌, Bool, IfOk, map, string_bytes};
 ghost use Rattle.std.specs.Path.{IsAbsolute};
-ghost use Rattle.launcher.specs.ExitCodes.{IsExitCodeOf};
+ghost use Rattle.launcher.specs.ExitCodes.{IsExitCode, IsExitCodeOf};
+ghost use Rattle.listing_text.specs.Cause.{status_of};
+ghost use Rattle.listing_text.specs.declared.cause.Cause.TheVariants.{Busy};
+ghost use Rattle.real_programs.specs.ProgramRuns.{exit_of};
 ghost use Rattle.caller_rules.specs.DaemonStarts.{begins_trim};
 ghost use Rattle.launcher.specs.ToolRuns.{IsToolRun, post_program_by, program_by};
 
@@ -47,7 +50,10 @@ pub fn run_tool_on<S: System, W: Witness + Drop, V: InputWitness + Drop>(
 {
     let target = target_of(tool, words);
     if saves_into_itself(system, tool, words, paths, &target) {
-        return Ok(ToolRun::kept_out(ProgramExit::of(refuse_tool(rt, tool, Cause::Busy))));
+        return Ok(ToolRun {
+            exit: busy(rt, tool),
+            system: None,
+        });
     }
     if tool == ToolName::Atcron {
         warn_of_mark(system, rt.alloc(), spool.as_str())?;
@@ -60,7 +66,18 @@ pub fn run_tool_on<S: System, W: Witness + Drop, V: InputWitness + Drop>(
         waits: lock_wait(system),
     };
     let ran = run_on_real_system(rt, program, words, &invoker.caller, plan, clock, witnesses)?;
-    Ok(ToolRun::ran(ran))
+    Ok(ToolRun {
+        exit: ran.exit,
+        system: Some(ran.system),
+    })
+}
+
+// Says that another program holds the spool.
+fn busy(rt: &HostRuntime, tool: ToolName) -> ProgramExit
+    ensures exit { result ≡ exit_of (status_of Busy) }
+    ensures code { IsExitCode result.code }
+{
+    ProgramExit::of(refuse_tool(rt, tool, Cause::Busy))
 }
 
 // The directory into which the words of atcheck salvage, which is taken out of them.

@@ -45,7 +45,12 @@ fn text_of_hint<S: System>(
     let alloc = rt.alloc();
     match hint {
         Hint::Help => help_hint(alloc, tool),
-        Hint::Lists => access_hint(alloc, user.name.as_str(), lists, lists_in(system, alloc, lists)?),
+        Hint::Lists => access_hint(
+            alloc,
+            user.name.as_str(),
+            lists,
+            lists_in(system, alloc, lists)?,
+        ),
         Hint::Spool => {
             let (trouble, path) = trouble_of(rt, system, user, spool)?;
             spool_hint(alloc, trouble, path.as_str())

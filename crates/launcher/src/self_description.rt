@@ -5,8 +5,8 @@ ghost use Rattle.launcher.specs.ExitCodes.{IsExitCode};
 
 use crate::built_record::built_record;
 use crate::exit_codes::exit_code_of;
-use crate::refusal::{refuse_tool, refuse_unknown_caller};
 use crate::invoker::user_of_process;
+use crate::refusal::{refuse_tool, refuse_unknown_caller};
 use caller_environment::ToolName;
 use caller_rules::callers_spool;
 use listing_text::Cause;
@@ -66,11 +66,7 @@ pub fn describe<S: System>(
     }
 }
 
-fn put_spool<S: System>(
-    rt: &HostRuntime,
-    system: &mut S,
-    tool: ToolName,
-) -> Result<u8, AllocError>
+fn put_spool<S: System>(rt: &HostRuntime, system: &mut S, tool: ToolName) -> Result<u8, AllocError>
     ensures { IfOk result IsExitCode }
 {
     let Some(user) = user_of_process(rt)? else {

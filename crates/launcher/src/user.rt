@@ -35,11 +35,11 @@ pub fn calling_user(rt: &HostRuntime, status: &[u8]) -> Result<CallingUser, Allo
 
 // The directory, where it exists and is the user's own.
 fn own_home(rt: &HostRuntime, home: Text, number: u32) -> Option<Text> {
-    let is_own = is_directory_of(rt, home.as_str(), number);
+    let is_own = is_home_of(rt, home.as_str(), number);
     Some(home).filter(|_| is_own)
 }
 
-fn is_directory_of(rt: &HostRuntime, path: &str, user: u32) -> bool {
+fn is_home_of(rt: &HostRuntime, path: &str, user: u32) -> bool {
     match fs::metadata(rt, path) {
         Ok(found) => found.is_dir() && found.uid() == user,
         Err(_) => false,

@@ -11,7 +11,7 @@ use Rattle.real_programs.specs.CheckRuns.{ChecksInto}
 use Rattle.real_programs.specs.declared.program.Program.{Program}
 use Rattle.real_programs.specs.declared.program.Program.TheVariants.{Commands, Stat, Post, Trim, PostAfterTrim, Cron, Next, Account, Check}
 use Rattle.real_programs.specs.declared.program_exit.ProgramExit.{ProgramExit}
-use Rattle.real_programs.specs.declared.system.System.{System}
+use Rattle.real_programs.specs.declared.system.ProgramSystem.{ProgramSystem}
 use Rattle.real_programs.specs.declared.target.SalvageTarget.{SalvageTarget}
 use Rattle.real_programs.specs.declared.target.SalvageTarget.TheVariants.{Directory, Memory}
 use Rattle.real_programs.specs.PostRuns.{PostsUnless}
@@ -23,9 +23,9 @@ of_status : (exit : ProgramExit) (status : Status) → exit ≡ exit_of status �
 of_status exit status is code = (status.cause, is ∙ ap exit_of code)
 
 module _ {D C I O E : Type 0} (h : host.Ghosts D) (m : host.Ghosts MemoryHost) (r : readings.Ghosts C) (i : inputs.Ghosts I)
-    (o : sink.Ghosts O) (e : sink.Ghosts E) (words : List (List ℕ)) (caller : Caller) (old new : System D C I O E) where
+    (o : sink.Ghosts O) (e : sink.Ghosts E) (words : List (List ℕ)) (caller : Caller) (old new : ProgramSystem D C I O E) where
   -- that of the trim, or that of the sessions
-  posts_code : (is_stopped : Bool) (between : System D C I O E) (trimmed status : Status)
+  posts_code : (is_stopped : Bool) (between : ProgramSystem D C I O E) (trimmed status : Status)
       → PostsUnless is_stopped h r e words between trimmed new status → trimmed ≡ status_of trimmed.cause → status ≡ status_of status.cause
   posts_code true between trimmed status posts code =
       subst (λ (status : Status). status ≡ status_of status.cause) (sym posts.1) code

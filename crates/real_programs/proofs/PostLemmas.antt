@@ -4,11 +4,11 @@ use Rattle.host_calls.specs.declared.host.Host as host
 use Rattle.host_calls.specs.declared.readings.Readings as readings
 use Rattle.host_calls.specs.declared.sink.Sink as sink
 use Rattle.listing_text.specs.declared.status.Status.{Status}
-use Rattle.real_programs.specs.declared.system.System.{System}
+use Rattle.real_programs.specs.declared.system.ProgramSystem.{ProgramSystem}
 use Rattle.real_programs.specs.PostRuns.{PostsUnless}
 use Rattle.real_programs.specs.Runs.{IsTrimRun}
 
-module _ {D C I O E : Type 0} (h : host.Ghosts D) (e : sink.Ghosts E) (old new : System D C I O E) where
+module _ {D C I O E : Type 0} (h : host.Ghosts D) (e : sink.Ghosts E) (old new : ProgramSystem D C I O E) where
   -- a trim by words that are equal
   pub trim_by_words : (one other : List (List ℕ)) (status : Status) → one ≡ other → IsTrimRun h e one old new status
       → IsTrimRun h e other old new status

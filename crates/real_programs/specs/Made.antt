@@ -4,7 +4,7 @@ use Rattle.host_calls.specs.declared.host.Host as host
 use Rattle.host_calls.specs.Session.{IsOutside}
 use Rattle.real_programs.specs.declared.program.Program.{Program}
 use Rattle.real_programs.specs.declared.program.Program.TheVariants.{Commands, Stat, Post, Trim, PostAfterTrim, Cron, Next, Account, Check}
-use Rattle.real_programs.specs.declared.system.System.{System}
+use Rattle.real_programs.specs.declared.system.ProgramSystem.{ProgramSystem}
 use Rattle.real_programs.specs.declared.system_plan.SystemPlan.{SystemPlan}
 use Rattle.real_programs.specs.declared.target.SalvageTarget.{SalvageTarget}
 use Rattle.real_programs.specs.declared.target.SalvageTarget.TheVariants.{Directory, Memory}
@@ -50,7 +50,7 @@ IsTargetAt None waits witness (Memory to) = Unit {0}
 -- outputs have accepted nothing.
 pub record IsSystem {W V R A B C D E F G I O S L : Type 0} (h : host.Ghosts (Witnessed (UnixHost R A B C D E F G) W))
     (program : Program) (plan : SystemPlan) (clock : L) (witnesses : Witnesses W V)
-    (system : System (Witnessed (UnixHost R A B C D E F G) W) L (WitnessedInputs I V) (NotedSink O) (NotedSink S))
+    (system : ProgramSystem (Witnessed (UnixHost R A B C D E F G) W) L (WitnessedInputs I V) (NotedSink O) (NotedSink S))
     : Type 0 where
   pub outside : IsOutside (h.session system.directory)
   pub target_outside : IsTargetOutside h system.target

@@ -13,7 +13,7 @@ use Rattle.real_programs.specs.CheckRuns.{IsCheckRun}
 use Rattle.real_programs.specs.declared.program.Program.{Program}
 use Rattle.real_programs.specs.declared.program.Program.TheVariants.{Commands, Stat, Post, Trim, PostAfterTrim, Cron, Next, Account, Check}
 use Rattle.real_programs.specs.declared.program_exit.ProgramExit.{ProgramExit}
-use Rattle.real_programs.specs.declared.system.System.{System}
+use Rattle.real_programs.specs.declared.system.ProgramSystem.{ProgramSystem}
 use Rattle.real_programs.specs.PostRuns.{IsPostAfterTrim}
 use Rattle.real_programs.specs.Runs.{IsAccountRun, IsCommandsRun, IsCronRun, IsNextRun, IsPostRun, IsStatRun, IsTrimRun}
 use Rattle.tool_output.specs.declared.caller.Caller.{Caller}
@@ -56,8 +56,8 @@ IsExitOf Check exit = IsExitOfCause exit
 
 -- the program ran by these words, for this caller, and ended with this exit
 abbrev pub IsProgramRun : {D C I O E : Type 0} → host.Ghosts D → host.Ghosts MemoryHost → readings.Ghosts C →
-    inputs.Ghosts I → sink.Ghosts O → sink.Ghosts E → Program → List (List ℕ) → Caller → System D C I O E →
-    System D C I O E → ProgramExit → Type 0
+    inputs.Ghosts I → sink.Ghosts O → sink.Ghosts E → Program → List (List ℕ) → Caller → ProgramSystem D C I O E →
+    ProgramSystem D C I O E → ProgramExit → Type 0
 IsProgramRun h m r i o e Commands words caller old new exit =
     EndsWith (λ status. IsCommandsRun h r i o e words caller old new status) exit
 IsProgramRun h m r i o e Stat words caller old new exit =

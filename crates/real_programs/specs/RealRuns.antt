@@ -7,7 +7,7 @@ use Rattle.host_calls.specs.declared.sink.Sink as sink
 use Rattle.memory_host.specs.declared.memory_host.MemoryHost.{MemoryHost}
 use Rattle.real_programs.specs.declared.program.Program.{Program}
 use Rattle.real_programs.specs.declared.program_exit.ProgramExit.{ProgramExit}
-use Rattle.real_programs.specs.declared.system.System.{System}
+use Rattle.real_programs.specs.declared.system.ProgramSystem.{ProgramSystem}
 use Rattle.real_programs.specs.declared.system_plan.SystemPlan.{SystemPlan}
 use Rattle.real_programs.specs.declared.witnesses.Witnesses.{Witnesses}
 use Rattle.real_programs.specs.Made.{IsSystem}
@@ -24,9 +24,9 @@ pub record IsRealRun {W V R A B C D E F G I O S L : Type 0} (h : host.Ghosts (Wi
     (m : host.Ghosts MemoryHost) (r : readings.Ghosts L) (i : inputs.Ghosts (WitnessedInputs I V))
     (o : sink.Ghosts (NotedSink O)) (e : sink.Ghosts (NotedSink S)) (program : Program) (words : List (List ℕ))
     (caller : Caller) (plan : SystemPlan) (clock : L) (witnesses : Witnesses W V)
-    (left : System (Witnessed (UnixHost R A B C D E F G) W) L (WitnessedInputs I V) (NotedSink O) (NotedSink S))
+    (left : ProgramSystem (Witnessed (UnixHost R A B C D E F G) W) L (WitnessedInputs I V) (NotedSink O) (NotedSink S))
     (exit : ProgramExit) : Type 0 where
-  pub first : System (Witnessed (UnixHost R A B C D E F G) W) L (WitnessedInputs I V) (NotedSink O) (NotedSink S)
+  pub first : ProgramSystem (Witnessed (UnixHost R A B C D E F G) W) L (WitnessedInputs I V) (NotedSink O) (NotedSink S)
   pub made : IsSystem h program plan clock witnesses first
   pub ran : IsProgramRun h m r i o e program words caller first left exit
 
@@ -34,7 +34,7 @@ pub record IsRealRun {W V R A B C D E F G I O S L : Type 0} (h : host.Ghosts (Wi
 pub record IsRunAlone {W V R A B C D E F G I O S L : Type 0} (h : host.Ghosts (Witnessed (UnixHost R A B C D E F G) W))
     (m : host.Ghosts MemoryHost) (r : readings.Ghosts L) (i : inputs.Ghosts (WitnessedInputs I V))
     (o : sink.Ghosts (NotedSink O)) (e : sink.Ghosts (NotedSink S)) (program : Program) (witnesses : Witnesses W V)
-    (left : System (Witnessed (UnixHost R A B C D E F G) W) L (WitnessedInputs I V) (NotedSink O) (NotedSink S))
+    (left : ProgramSystem (Witnessed (UnixHost R A B C D E F G) W) L (WitnessedInputs I V) (NotedSink O) (NotedSink S))
     (exit : ProgramExit) : Type 0 where
   pub words : List (List ℕ)
   pub caller : Caller

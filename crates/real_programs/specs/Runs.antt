@@ -24,7 +24,7 @@ use Rattle.host_calls.specs.declared.readings.Readings as readings
 use Rattle.host_calls.specs.declared.sink.Sink as sink
 use Rattle.listing_text.specs.Cause.{status_of}
 use Rattle.listing_text.specs.declared.status.Status.{Status}
-use Rattle.real_programs.specs.declared.system.System.{System}
+use Rattle.real_programs.specs.declared.system.ProgramSystem.{ProgramSystem}
 use Rattle.real_programs.specs.Systems.{account_at, commands_at, crontab_at, errors_at, errors_made_as, next_at, output_made_as, mail_at, stat_at, notes_at}
 use Rattle.serving.specs.Outside.{EndsOutside}
 use Rattle.tool_output.specs.declared.caller.Caller.{Caller}
@@ -33,7 +33,7 @@ use Rattle.tool_output.specs.Sinks.{EndsLine}
 -- The commands ran by these words, for this caller: its session and its faults; what no daemon does, what a daemon does, and
 -- what words of `atday` do; and what the others were made as stays.
 pub record IsCommandsRun {D C I O E : Type 0} (h : host.Ghosts D) (r : readings.Ghosts C) (i : inputs.Ghosts I)
-    (o : sink.Ghosts O) (e : sink.Ghosts E) (words : List (List ℕ)) (caller : Caller) (old new : System D C I O E)
+    (o : sink.Ghosts O) (e : sink.Ghosts E) (words : List (List ℕ)) (caller : Caller) (old new : ProgramSystem D C I O E)
     (status : Status) : Type 0 where
   pub code : status ≡ status_of status.cause
   pub session : EndsOutside (h.session old.directory) (h.session new.directory)
@@ -49,7 +49,7 @@ pub record IsCommandsRun {D C I O E : Type 0} (h : host.Ghosts D) (r : readings.
 
 -- The sessions of mail ran by these words. The input and the output are left alone.
 pub record IsPostRun {D C I O E : Type 0} (h : host.Ghosts D) (r : readings.Ghosts C) (e : sink.Ghosts E)
-    (words : List (List ℕ)) (old new : System D C I O E) (status : Status) : Type 0 where
+    (words : List (List ℕ)) (old new : ProgramSystem D C I O E) (status : Status) : Type 0 where
   pub code : status ≡ status_of status.cause
   pub posts : PostEnds (post_asked words) (mail_at h r e old) (mail_at h r e new) status.cause
   pub target : new.target ≡ old.target
@@ -58,7 +58,7 @@ pub record IsPostRun {D C I O E : Type 0} (h : host.Ghosts D) (r : readings.Ghos
 
 -- A trim of the notes of mail ran by these words. The clock, the input and the output are left alone.
 pub record IsTrimRun {D C I O E : Type 0} (h : host.Ghosts D) (e : sink.Ghosts E)
-    (words : List (List ℕ)) (old new : System D C I O E) (status : Status) : Type 0 where
+    (words : List (List ℕ)) (old new : ProgramSystem D C I O E) (status : Status) : Type 0 where
   pub code : status ≡ status_of status.cause
   pub errors_made : errors_made_as e new ≡ errors_made_as e old
   pub trims : TrimEnds (trim_asked words) (notes_at h e old) (notes_at h e new) status.cause
@@ -69,7 +69,7 @@ pub record IsTrimRun {D C I O E : Type 0} (h : host.Ghosts D) (e : sink.Ghosts E
 
 -- The sessions of a crontab ran by these words, for this caller. The output is left alone.
 pub record IsCronRun {D C I O E : Type 0} (h : host.Ghosts D) (r : readings.Ghosts C) (i : inputs.Ghosts I)
-    (e : sink.Ghosts E) (words : List (List ℕ)) (caller : Caller) (old new : System D C I O E) (status : Status)
+    (e : sink.Ghosts E) (words : List (List ℕ)) (caller : Caller) (old new : ProgramSystem D C I O E) (status : Status)
     : Type 0 where
   pub code : status ≡ status_of status.cause
   pub errors_made : errors_made_as e new ≡ errors_made_as e old
@@ -81,7 +81,7 @@ pub record IsCronRun {D C I O E : Type 0} (h : host.Ghosts D) (r : readings.Ghos
 
 -- A listing of next minutes ran by these words, in the zone of this caller. The directory is left alone.
 pub record IsNextRun {D C I O E : Type 0} (r : readings.Ghosts C) (i : inputs.Ghosts I) (o : sink.Ghosts O)
-    (e : sink.Ghosts E) (words : List (List ℕ)) (caller : Caller) (old new : System D C I O E) (status : Status)
+    (e : sink.Ghosts E) (words : List (List ℕ)) (caller : Caller) (old new : ProgramSystem D C I O E) (status : Status)
     : Type 0 where
   pub code : status ≡ status_of status.cause
   pub output_made : output_made_as o new ≡ output_made_as o old
@@ -93,7 +93,7 @@ pub record IsNextRun {D C I O E : Type 0} (r : readings.Ghosts C) (i : inputs.Gh
 
 -- An account ran by these words. The clock and the input are left alone.
 pub record IsAccountRun {D C I O E : Type 0} (h : host.Ghosts D) (o : sink.Ghosts O) (e : sink.Ghosts E)
-    (words : List (List ℕ)) (old new : System D C I O E) (status : Status) : Type 0 where
+    (words : List (List ℕ)) (old new : ProgramSystem D C I O E) (status : Status) : Type 0 where
   pub code : status ≡ status_of status.cause
   pub accounting : Accounting (account_asked words) (account_at h o old) (account_at h o new) status.cause
   pub says : e.tells ≡ true → EndsLine (codes "ataccount") status.cause (errors_at e old) (errors_at e new)
@@ -104,7 +104,7 @@ pub record IsAccountRun {D C I O E : Type 0} (h : host.Ghosts D) (o : sink.Ghost
 
 -- atstat ran by these words, for this caller. The input is left alone.
 pub record IsStatRun {D C I O E : Type 0} (h : host.Ghosts D) (r : readings.Ghosts C) (o : sink.Ghosts O)
-    (e : sink.Ghosts E) (words : List (List ℕ)) (caller : Caller) (old new : System D C I O E) (exit : StatExit)
+    (e : sink.Ghosts E) (words : List (List ℕ)) (caller : Caller) (old new : ProgramSystem D C I O E) (exit : StatExit)
     : Type 0 where
   pub code : HasCode exit
   pub stating : Stating (stat_asked words) caller (stat_at h r o old) (stat_at h r o new) e.tells

@@ -4,7 +4,7 @@ ghost use Rattle.host_calls.specs.Session.{IsOutside};
 ghost use Rattle.real_programs.specs.CheckRuns.{IsCheckRun};
 ghost use Rattle.real_programs.specs.Systems.{IsTargetOutside};
 
-use crate::system::System;
+use crate::system::ProgramSystem;
 use crate::target::SalvageTarget;
 use host_calls::{Host, Sink};
 use listing_text::Status;
@@ -16,7 +16,7 @@ use std::alloc::Global;
 pub fn run_check<D: Host, C, I, O: Sink, E: Sink>(
     alloc: Global,
     words: &[String],
-    system: &mut System<D, C, I, O, E>,
+    system: &mut ProgramSystem<D, C, I, O, E>,
 ) -> Status
     requires directory { IsOutside (D.session system.old.directory) }
     requires target { IsTargetOutside D.Host system.old.target }

@@ -3,7 +3,7 @@ ghost use Rattle.std.specs.Prelude.{◌<◌, map, string_bytes};
 ghost use Rattle.host_calls.specs.Session.{IsOutside};
 ghost use Rattle.real_programs.specs.Runs.{IsCommandsRun};
 
-use crate::system::System;
+use crate::system::ProgramSystem;
 use at_day::program;
 use host_calls::{Host, Inputs, Readings, Sink};
 use listing_text::Status;
@@ -15,7 +15,7 @@ pub fn run_commands<D: Host, C: Readings, I: Inputs, O: Sink, E: Sink>(
     alloc: Global,
     words: &[String],
     caller: &Caller,
-    system: &mut System<D, C, I, O, E>,
+    system: &mut ProgramSystem<D, C, I, O, E>,
 ) -> Status
     requires outside { IsOutside (D.session system.old.directory) }
     requires umask { caller.now.context.umask < 512 }

@@ -43,7 +43,7 @@ pub use streams::{
     RealClock, RealErrors, RealInput, RealOutput, real_clock, real_errors, real_input, real_output,
     watching_clock,
 };
-pub use system::System;
+pub use system::ProgramSystem;
 pub use system_plan::SystemPlan;
 pub use target::SalvageTarget;
 pub use witnesses::{UNCHECKED, Witnesses};

@@ -9,7 +9,7 @@ use crate::program::Program;
 use crate::streams::{
     RealClock, RealErrors, RealInput, RealOutput, real_errors, real_input, real_output,
 };
-use crate::system::System;
+use crate::system::ProgramSystem;
 use crate::system_plan::SystemPlan;
 use crate::target::SalvageTarget;
 use crate::witnesses::Witnesses;
@@ -20,7 +20,7 @@ use unix_host::Waits;
 use witnessed_host::{InputWitness, Witness};
 
 /// What a program works with on a real machine, next to these witnesses.
-pub type RealSystem<W, V> = System<
+pub type RealSystem<W, V> = ProgramSystem<
     RealDirectory<W>,
     RealClock,
     RealInput<V>,
@@ -41,7 +41,7 @@ pub fn real_system<W: Witness + Drop, V: InputWitness + Drop>(
     let waits = plan.waits;
     let directory = program_directory(rt, program, plan.spool, waits, witnesses.directory)?;
     let target = salvage_target(rt, plan.target, waits, witnesses.target)?;
-    Ok(System {
+    Ok(ProgramSystem {
         directory,
         target,
         clock,

@@ -4,7 +4,7 @@ ghost use Rattle.host_calls.specs.Session.{IsOutside};
 ghost use Rattle.real_programs.specs.PostRuns.{IsPostAfterTrim, PostsUnless, is_damage, trim_words};
 ghost use Rattle.real_programs.specs.Runs.{IsPostRun, IsTrimRun};
 
-use crate::system::System;
+use crate::system::ProgramSystem;
 use at_mail::{post_program, trim_program};
 use host_calls::{Host, Readings, Sink};
 use listing_text::{Cause, Status};
@@ -14,7 +14,7 @@ use std::alloc::{AllocError, Global};
 pub fn run_post<D: Host, C: Readings, I, O, E: Sink>(
     alloc: Global,
     words: &[String],
-    system: &mut System<D, C, I, O, E>,
+    system: &mut ProgramSystem<D, C, I, O, E>,
 ) -> Status
     requires { IsOutside (D.session system.old.directory) }
     ensures { IsPostRun D.Host C.Readings E.Sink (map string_bytes words.now) system.old system.new result }
@@ -32,7 +32,7 @@ pub fn run_post<D: Host, C: Readings, I, O, E: Sink>(
 pub fn run_trim<D: Host, C, I, O, E: Sink>(
     alloc: Global,
     words: &[String],
-    system: &mut System<D, C, I, O, E>,
+    system: &mut ProgramSystem<D, C, I, O, E>,
 ) -> Status
     requires { IsOutside (D.session system.old.directory) }
     ensures run { IsTrimRun D.Host E.Sink (map string_bytes words.now) system.old system.new result }
@@ -46,7 +46,7 @@ pub fn run_trim<D: Host, C, I, O, E: Sink>(
 pub fn run_post_after_trim<D: Host, C: Readings, I, O, E: Sink>(
     alloc: Global,
     words: &[String],
-    system: &mut System<D, C, I, O, E>,
+    system: &mut ProgramSystem<D, C, I, O, E>,
 ) -> Result<Status, AllocError>
     requires { IsOutside (D.session system.old.directory) }
     ensures run { IfOk result (λ status. IsPostAfterTrim D.Host C.Readings E.Sink (map string_bytes words.now)
@@ -70,7 +70,7 @@ fn trim_words(alloc: Global) -> Result<Vec<String>, AllocError>
 fn trim_by<D: Host, C, I, O, E: Sink>(
     alloc: Global,
     words: &[String],
-    system: &mut System<D, C, I, O, E>,
+    system: &mut ProgramSystem<D, C, I, O, E>,
 ) -> Status
     requires outside { IsOutside (D.session system.old.directory) }
     requires words { map string_bytes words.now ≡ trim_words }
@@ -92,7 +92,7 @@ fn post_unless<D: Host, C: Readings, I, O, E: Sink>(
     is_stopped: bool,
     trimmed: Status,
     words: &[String],
-    system: &mut System<D, C, I, O, E>,
+    system: &mut ProgramSystem<D, C, I, O, E>,
 ) -> Status
     requires { IsOutside (D.session system.old.directory) }
     ensures { PostsUnless is_stopped D.Host C.Readings E.Sink (map string_bytes words.now) system.old trimmed

@@ -12,7 +12,7 @@ use crate::post::{run_post, run_post_after_trim, run_trim};
 use crate::program::Program;
 use crate::program_exit::ProgramExit;
 use crate::stat::run_stat;
-use crate::system::System;
+use crate::system::ProgramSystem;
 use host_calls::{Host, Inputs, Readings, Sink};
 use memory_host::MemoryHost;
 use std::alloc::{AllocError, Global};
@@ -24,7 +24,7 @@ pub fn run_program<D: Host, C: Readings, I: Inputs, O: Sink, E: Sink>(
     program: Program,
     words: &[String],
     caller: &Caller,
-    system: &mut System<D, C, I, O, E>,
+    system: &mut ProgramSystem<D, C, I, O, E>,
 ) -> Result<ProgramExit, AllocError>
     requires outside { IsOutside (D.session system.old.directory) }
     requires target { IsTargetOutside D.Host system.old.target }

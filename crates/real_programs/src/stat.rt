@@ -3,7 +3,7 @@ ghost use Rattle.std.specs.Prelude.{map, string_bytes};
 ghost use Rattle.host_calls.specs.Session.{IsOutside};
 ghost use Rattle.real_programs.specs.Runs.{IsStatRun};
 
-use crate::system::System;
+use crate::system::ProgramSystem;
 use at_stat::{StatExit, stat_program};
 use host_calls::{Host, Readings, Sink};
 use std::alloc::Global;
@@ -14,7 +14,7 @@ pub fn run_stat<D: Host, C: Readings, I, O: Sink, E: Sink>(
     alloc: Global,
     words: &[String],
     caller: &Caller,
-    system: &mut System<D, C, I, O, E>,
+    system: &mut ProgramSystem<D, C, I, O, E>,
 ) -> StatExit
     requires { IsOutside (D.session system.old.directory) }
     ensures { IsStatRun D.Host C.Readings O.Sink E.Sink (map string_bytes words.now) caller.now

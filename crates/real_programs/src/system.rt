@@ -3,7 +3,7 @@ use crate::target::SalvageTarget;
 
 /// What a program works with: its directory, where a salvage writes, the clock, the input and the two outputs.
 #[derive(Drop)]
-pub struct System<D, C, I, O, E> {
+pub struct ProgramSystem<D, C, I, O, E> {
     pub directory: D,
     pub target: SalvageTarget<D>,
     pub clock: C,
