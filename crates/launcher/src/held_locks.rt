@@ -26,6 +26,7 @@ fn field_ending(alloc: Global, inode: u64) -> Result<String, AllocError>
 }
 
 fn has_lock(table: &[u8], ending: &[u8]) -> bool
+    /// The table of locks has one on the file with this inode exactly if a field of a line ends with that inode.
     ensures { result ≡ has_lock table.now ending.now }
 {
     table

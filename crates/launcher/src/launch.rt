@@ -32,6 +32,8 @@ pub fn launch<S: System, W: Witness + Drop, V: InputWitness + Drop>(
     spool: &ToolSpool,
     witnesses: Witnesses<W, V>,
 ) -> Result<ToolRun<W, V>, AllocError>
+    /// A tool does not run where the lists of the machine refuse its caller, its spool is not theirs, or another daemon has it;
+    /// else it is admitted, and its program runs once, by its words, for its caller and on its spool.
     ensures launch { IfOk result (λ run. EndsLaunch ⟦<RealDirectory<W> as Host>⟧ ⟦<MemoryHost as Host>⟧
         ⟦<RealClock as Readings>⟧ ⟦<RealInput<V> as Inputs>⟧ ⟦<RealOutput as Sink>⟧ ⟦<RealErrors as Sink>⟧
         tool (map string_bytes words.old.items) (map string_bytes words.new.items) invoker.now.user invoker.now.caller

@@ -8,6 +8,7 @@ mod after_submission;
 mod built_record;
 mod caller_with;
 mod clock_mark;
+mod crontab_file;
 mod disk_probe;
 mod exit_codes;
 mod held_locks;

@@ -24,6 +24,7 @@ pub enum Description {
 
 /// What the words ask a tool to print of itself, by the one word after its name.
 pub fn description_asked(words: &[String]) -> Option<Description>
+    /// A single word requests help, the version or the spool, and other words none of these.
     ensures { result ≡ description_asked (map string_bytes words.now) }
 {
     match words {

@@ -4,11 +4,12 @@ ghost use Rattle.launcher.specs.ExitCodes.{IsExitCode, IsExitCodeOf};
 ghost use Rattle.real_programs.specs.declared.program.Program.TheVariants.{Stat};
 
 use crate::after_submission::after_submission;
+use crate::crontab_file::unsafe_crontab;
 use crate::exit_codes::exit_code_of;
 use crate::invoker::{Invoker, invoker_of};
 use crate::launch::launch;
 use crate::lock_wait::lock_wait;
-use crate::refusal::refuse_unknown_caller;
+use crate::refusal::{refuse_tool, refuse_unknown_caller};
 use crate::say_hint::say_hint;
 use crate::self_description::{describe, description_asked};
 use crate::send_program::unusable_program;
@@ -54,6 +55,7 @@ fn run_tool<S: System, W: Witness + Drop, V: InputWitness + Drop>(
     words: &mut Vec<String>,
     witnesses: Witnesses<W, V>,
 ) -> Result<u8, AllocError>
+    /// The exit status is that of a cause; that of `atstat` may be a job's.
     ensures { IfOk result (IsExitCodeOf tool) }
 {
     if let Some(asked) = description_asked(words) {
@@ -133,8 +135,8 @@ fn run_on_spool<S: System, W: Witness + Drop, V: InputWitness + Drop>(
 ) -> Result<u8, AllocError>
     ensures { IfOk result (IsExitCodeOf tool) }
 {
-    if tool == ToolName::Atpost && refuses_program(rt, words) {
-        return Ok(exit_code_of(&Cause::Refused(Refusal::Usage)));
+    if let Some(cause) = refused_before(rt, system, tool, words, &invoker.user) {
+        return Ok(exit_code_of(&cause));
     }
     let run = launch(rt, system, tool, words, invoker, spool, witnesses)?;
     if let Some(cause) = &run.exit.cause {
@@ -166,13 +168,28 @@ fn follow<S: System>(
     say_hint(rt, system, tool, cause, user, spool, lists)
 }
 
-// Says so where the program of notices can't be executed.
-fn refuses_program(rt: &HostRuntime, words: &[String]) -> bool {
-    match unusable_program(rt, words) {
-        Some(path) => {
+// Says why the words of a tool, or the name of its caller, refuse it, if they do.
+fn refused_before<S: System>(
+    rt: &HostRuntime,
+    system: &mut S,
+    tool: ToolName,
+    words: &[String],
+    user: &CallingUser,
+) -> Option<Cause> {
+    match tool {
+        ToolName::Atpost => {
+            let path = unusable_program(rt, words)?;
             let _ = eprintln!(rt; "atpost: {path} can not be executed");
-            true
+            Some(Cause::Refused(Refusal::Usage))
         }
-        None => false,
+        ToolName::Atcron => {
+            let path = unsafe_crontab(system, words, user)?;
+            let _ = eprintln!(rt; "atcron: {path} is another user's, or others may write it");
+            Some(Cause::InputFault)
+        }
+        _ if row_of_tool(tool).consults_lists && user.has_name_of_digits() => {
+            Some(refuse_tool(rt, tool, Cause::Refused(Refusal::BadUser)).cause)
+        }
+        _ => None,
     }
 }
