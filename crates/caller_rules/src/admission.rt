@@ -45,7 +45,9 @@ pub fn admit<S: System>(
     }
     match use_of_spool(system, alloc, tool, words, user, spool)? {
         SpoolUse::KeptOut => Ok(Admission::KeptOut),
-        SpoolUse::Usable(paths) => start_tool(system, alloc, tool, words, submits, user, spool, paths),
+        SpoolUse::Usable(paths) => start_tool(
+            system, alloc, tool, words, submits, user, spool, paths,
+        ),
     }
 }
 
