@@ -10,6 +10,7 @@
 # BINARY       a coefhird that was built from these sources before
 # BINARIES     a directory that has it by the name of its crate
 # UNPROVED     yes: install a program without a record, as not proved
+# BUILD_ONLY   yes: prove and build the program, and install nothing
 # --cpu NAME   x86-64 for each processor of that kind; without it those since 2009 or so, which x86-64-v2 means
 #
 # Beside a program PROGRAM is the record of what proved it, PROGRAM.record: its checksum, the commit and the toolchain. The
@@ -143,6 +144,7 @@ filled() { # mode, file, where
 for crate in $crates; do
     binary_of "$crate" "$@"
     compare_record
+    [ "${BUILD_ONLY:-}" != yes ] || exit 0
     program=$to/libexec/coefhird/$crate
     install -D -m 755 "$binary" "$program.new"
     mv -f "$program.new" "$program"

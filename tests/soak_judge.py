@@ -25,6 +25,8 @@ for token, count in starts.items():
     is_true(count == 1, 'ran twice: ' + token)
 for number, count in list(handed.items()) + list(ended.items()):
     is_true(count == 1 and (number in accepted or number in cron), 'twice, or of no job, in the lines of atd: job %d' % number)
+for number in removed | waiting:
+    is_true(number in accepted or number in cron, 'job %d waits or was removed, and was not accepted' % number)
 ran = set()
 for number, (kind, _, token) in accepted.items():
     states = [starts[token] == 1, number in removed, number in waiting]

@@ -1,7 +1,7 @@
 # What the cases are written in. Each case stands in a folder of its own, and its spool is ./spool beside it.
 bin=$place/bin
 user=ann zone=UTC spool=$PWD/spool
-extra=()
+extra=() as_named=()
 
 fail() { printf '%s\n' "$*"; exit 1; }
 skip() { printf '%s\n' "$*"; exit 77; }
@@ -11,7 +11,15 @@ opened() { spool=$PWD/${1:-spool}; mkdir -m 700 "$spool" && : >"$spool/at.deny";
 
 # Becomes a call: nothing but these variables, and those in `extra`, is in its environment. In `( becomes .. ) &` the
 # child is the call itself.
-becomes() { exec env -i PATH=/usr/bin:/bin ATSPOOL="$spool" LOGNAME="$user" PWD="$PWD" TZ="$zone" "${extra[@]}" "$@"; }
+becomes() { exec env -i PATH=/usr/bin:/bin ATSPOOL="$spool" LOGNAME="$user" PWD="$PWD" TZ="$zone" "${extra[@]}" "${as_named[@]}" "$@"; }
+
+# From here on, each call finds a table of users in which its user has these names, for a tool that believes $user only if it is
+# one of them. It is so in a mount namespace for each call: as root, or else as the only user of a namespace.
+named() { # names
+  printf '%s:x:0:0::/nonexistent:/bin/sh\n' "$@" >passwd
+  as_named=(unshare "$([ "$(id -u)" = 0 ] && echo -m || echo -rm)" sh -c 'mount --bind "$0" /etc/passwd && exec "$@"' "$PWD/passwd")
+  "${as_named[@]}" true 2>said || skip "no call has a table of users of its own: $(tail -n 1 said)"
+}
 
 # Makes such a call.
 bare() { (becomes "$@"); }

@@ -25,7 +25,8 @@ no_account records lines none no_lines = subst (λ r. IsAccount r lines) (sym no
 }))
 
 -- new records came after the old ones
-pub grown : (old new all : List AccountRecord) (lines : List AccountLine) → all ≡ old ++ new → AreLegalAfter IsRecordAllowed [] old → AreLegalAfter IsRecordAllowed old new
+pub grown : (old new all : List AccountRecord) (lines : List AccountLine) → all ≡ old ++ new → AreLegalAfter IsRecordAllowed [] old
+    → AreLegalAfter IsRecordAllowed old new
     → AreTotals (old ++ new) lines → IsAccount all lines
 grown old new all lines is first second totals =
     subst (λ r. IsAccount r lines) (sym is) (record { in_turn = legal_both IsRecordAllowed [] old new first second; totals = totals })

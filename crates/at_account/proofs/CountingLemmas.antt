@@ -41,10 +41,12 @@ same_known (Some (DoneEntry fate)) = refl
 
 known_without_scripts : (kept table : JobTable) (number : ℕ) → kept ≡ without_scripts table → known_in kept number ≡ known_in table number
 known_without_scripts kept table number is =
-    ap (λ (of : JobTable). known_in of number) is ∙ ap (option_map known_job) (entries_are_without_scripts table number) ∙ same_known (entry_at table number)
+    ap (λ (of : JobTable). known_in of number) is ∙ ap (option_map known_job) (entries_are_without_scripts table number)
+    ∙ same_known (entry_at table number)
 
 -- what is new by the table that a store keeps is so by the table itself
-news_with_scripts : (before new_records : List AccountRecord) (kept table : JobTable) → kept ≡ without_scripts table → AreNews before kept new_records → AreNews before table new_records
+news_with_scripts : (before new_records : List AccountRecord) (kept table : JobTable) → kept ≡ without_scripts table
+    → AreNews before kept new_records → AreNews before table new_records
 news_with_scripts before new_records kept table is are = record {
   each = λ number. are.each number ∙ ap (news_of before number) (known_without_scripts kept table number is);
   by_number = are.by_number;
@@ -65,9 +67,11 @@ recovery_is_accounting start image is = record {
 }
 
 -- nothing but a recovery was begun
-pub accounting_alone : (old new : World) → ChangesFiles (ShowsAsBefore old.now.directory) old new → ChangesFiles (IsAccounting old.now.directory) old new
+pub accounting_alone : (old new : World) → ChangesFiles (ShowsAsBefore old.now.directory) old new
+    → ChangesFiles (IsAccounting old.now.directory) old new
 accounting_alone old new recovery =
-    changes_weaker (ShowsAsBefore old.now.directory) (IsAccounting old.now.directory) old new (recovery_is_accounting old.now.directory) recovery
+    changes_weaker (ShowsAsBefore old.now.directory) (IsAccounting old.now.directory) old new
+    (recovery_is_accounting old.now.directory) recovery
 
 -- a fault of a file, or an out-of-memory error, leaves what it leaves
 pub host_stops : (old new : World) (cause : Cause) → file.IsHostCause cause → StopsInside old new cause
@@ -98,7 +102,8 @@ module _ (old middle : World) (kept : Kept) (recovery : ChangesFiles (ShowsAsBef
       gives = subst (λ content. GivesRecords content stopped.read) reads_on stopped.gives;
       many = record {
         new_records = stopped.many.new_records;
-        are = news_with_scripts stopped.read stopped.many.new_records kept.table recovered.table recovered.current.without_scripts_is stopped.many.are;
+        are = news_with_scripts stopped.read stopped.many.new_records kept.table recovered.table
+            recovered.current.without_scripts_is stopped.many.are;
         many = stopped.many.many;
       };
     },
@@ -124,7 +129,8 @@ module _ (old middle : World) (kept : Kept) (recovery : ChangesFiles (ShowsAsBef
       -- an image on the way to the new file
       since_start : (image : Files) → IsWriting records middle.now.directory image → IsAccounting old.now.directory image
       since_start image is =
-          let from = changes_end (ShowsAsBefore old.now.directory) old middle recovery (as_before old.now.directory) is.alone.from is.alone.was in
+          let from =
+          changes_end (ShowsAsBefore old.now.directory) old middle recovery (as_before old.now.directory) is.alone.from is.alone.was in
           record {
             from = from.from;
             was = from.was;
@@ -138,19 +144,25 @@ module _ (old middle : World) (kept : Kept) (recovery : ChangesFiles (ShowsAsBef
 
       pub accounting_since : ChangesFiles (IsAccounting old.now.directory) old new
       accounting_since =
-          changes_on (ShowsAsBefore old.now.directory) (IsWriting records middle.now.directory) (IsAccounting old.now.directory) old middle new
+          changes_on (ShowsAsBefore old.now.directory) (IsWriting records middle.now.directory)
+          (IsAccounting old.now.directory) old middle new
           (recovery_is_accounting old.now.directory) since_start recovery writes
 
       -- all was done
-      pub accounted : (show : Bool) (text : List ℕ) → IsShown show records text → AreRecordsWritten records middle.now.directory new.now.directory → IsAccounted show old new text
+      pub accounted : (show : Bool) (text : List ℕ) → IsShown show records text
+          → AreRecordsWritten records middle.now.directory new.now.directory → IsAccounted show old new text
       accounted show text shown written = record {
         table = recovered.table;
         records = records;
         counted = counted;
         is_accounted = λ image is.
             let writing = changes_end (IsWriting records middle.now.directory) middle new writes
-            (λ files was. record { alone = left_alone (IsEither account_temp account_file) middle.now.directory files was; account = inl refl }) image is in (
-              shows_the_same (IsEither account_temp account_file) both_beside middle.now.directory image writing.alone ∙ recovered.current.shows writing.alone.from writing.alone.was,
+            (λ files was. record {
+              alone = left_alone (IsEither account_temp account_file) middle.now.directory files was;
+              account = inl refl;
+            }) image is in (
+              shows_the_same (IsEither account_temp account_file) both_beside middle.now.directory image writing.alone
+                  ∙ recovered.current.shows writing.alone.from writing.alone.was,
               written.gives image is,
             );
         shown = shown;

@@ -16,11 +16,13 @@ use Rattle.at_account.specs.Names.{account_file, account_temp}
 use Rattle.at_account.specs.inside.AccountFile.{IsWriting, AreRecordsWritten}
 
 -- what is placed is a file of records
-module _ (bytes : List ℕ) (records : List AccountRecord) (spelled : AreSpelled SpellsRecord bytes records) (in_turn : AreLegalAfter IsRecordAllowed [] records) where
+module _ (bytes : List ℕ) (records : List AccountRecord) (spelled : AreSpelled SpellsRecord bytes records)
+    (in_turn : AreLegalAfter IsRecordAllowed [] records) where
   gives : (content : Option (List ℕ)) → content ≡ Some bytes → GivesRecords content records
   gives content is = subst (λ c. GivesRecords c records) (sym is) (record { spelled = spelled; in_turn = in_turn })
 
-  pub writes : (old new : World) → ChangesFiles (IsPlacing account_temp account_file bytes old.now.directory) old new → ChangesFiles (IsWriting records old.now.directory) old new
+  pub writes : (old new : World) → ChangesFiles (IsPlacing account_temp account_file bytes old.now.directory) old new
+      → ChangesFiles (IsWriting records old.now.directory) old new
   writes old new changes =
       changes_weaker (IsPlacing account_temp account_file bytes old.now.directory) (IsWriting records old.now.directory) old new
       (λ image is. record {

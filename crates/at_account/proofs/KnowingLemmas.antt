@@ -47,7 +47,8 @@ found {X} P before (one ∷ later) number base each =
       by_test false is = subst P (sym (ap (λ b. cond b (Some one.1) (before number)) is)) base
 
 -- Where something was put in for the number, that is found.
-hit : {X : Type 0} (P : Option X → Type 0) (before : ℕ → Option X) (list : List (ℕ × X)) (number : ℕ) (one : ℕ × X) → Has list one → at one.0 number ≡ true
+hit : {X : Type 0} (P : Option X → Type 0) (before : ℕ → Option X) (list : List (ℕ × X)) (number : ℕ) (one : ℕ × X) → Has list one
+    → at one.0 number ≡ true
     → ((one : ℕ × X) → Has list one → at one.0 number ≡ true → P (Some one.1)) → P (update_all at before list number)
 hit P before [] number one has here each = absurd has
 hit P before (first ∷ later) number one (inl same) here each =
@@ -58,12 +59,14 @@ hit P before (first ∷ later) number one (inr has) here each =
     hit P (update at before first.0 (Some first.1)) later number one has here (λ other has. each other (inr has))
 
 -- one more is put in
-pub put_more : {X : Type 0} (make : X → Known) (list : List X) (place : ℕ) (one : X) (key : ℕ) (value : Option KnownJob) (old now new : Jobs) → place < length list
+pub put_more : {X : Type 0} (make : X → Known) (list : List X) (place : ℕ) (one : X) (key : ℕ) (value : Option KnownJob)
+    (old now new : Jobs) → place < length list
     → one ≡ get_or list place one → make one ≡ (key, value) → ArePut (map make (take place list)) old now
     → ((number : ℕ) → job_at new number ≡ cond (at key number) (Some value) (job_at now number))
     → ArePut (map make (take (place + 1) list)) old new
 put_more make list place one key value old now new inside here made put more number =
-    let entry : take (place + 1) list ≡ take place list ++ one ∷ [] = take_more list place one inside ∙ ap (λ o. take place list ++ o ∷ []) (sym here) in
+    let entry : take (place + 1) list ≡ take place list ++ one ∷ [] = take_more list place one inside
+    ∙ ap (λ o. take place list ++ o ∷ []) (sym here) in
     let all : map make (take (place + 1) list) ≡ map make (take place list) ++ (key, value) ∷ [] =
     ap (map make) entry ∙ map-append make (take place list) (one ∷ []) ∙ ap (λ o. map make (take place list) ++ o ∷ []) made in
     more number
@@ -71,7 +74,8 @@ put_more make list place one key value old now new inside here made put more num
     ∙ ap (λ known. jobs_after (job_at old) known number) (sym all)
 
 -- the element at a place is there, whatever serves as one beyond the end
-pub one_at : {X : Type 0} (list : List X) (place : ℕ) (other : X) → place < length list → get_or list place other ≡ get_or list place (get_or list place other)
+pub one_at : {X : Type 0} (list : List X) (place : ℕ) (other : X) → place < length list
+    → get_or list place other ≡ get_or list place (get_or list place other)
 one_at [] place other inside = absurd (omega arith)
 one_at (first ∷ later) zero other inside = refl
 one_at {X} (first ∷ later) (suc place) other inside = any_other later place other (get_or later place other) (omega arith) where
@@ -85,8 +89,10 @@ pub put_all : {X : Type 0} (make : X → Known) (list : List X) (place : ℕ) (o
     → ArePut (map make (take place list)) old new → ArePut (map make list) old new
 put_all make list place old new past put = subst (λ l. ArePut (map make l) old new) (take_all place list past) put
 
-module _ (before : List AccountRecord) (rows : List Row) (decided : List Decided) (table : JobTable) (live : ListsLive table rows) (done : ListsDecided table decided)
-    (none with_records with_rows all : Jobs) (empty : (number : ℕ) → job_at none number ≡ None) (records_put : ArePut (map record_known before) none with_records)
+module _ (before : List AccountRecord) (rows : List Row) (decided : List Decided) (table : JobTable) (live : ListsLive table rows)
+    (done : ListsDecided table decided)
+    (none with_records with_rows all : Jobs) (empty : (number : ℕ) → job_at none number ≡ None)
+    (records_put : ArePut (map record_known before) none with_records)
     (rows_put : ArePut (map row_known rows) with_records with_rows) (decided_put : ArePut (map decided_known decided) with_rows all) where
   -- what the table has of the number
   abbrev IsKnown : ℕ → Option (Option KnownJob) → Type 0
@@ -109,7 +115,8 @@ module _ (before : List AccountRecord) (rows : List Row) (decided : List Decided
       value ∙ sym (ap (option_map known_job) held) ∙ ap (known_in table) same
 
   -- a number that the table doesn't have
-  record_is_known : (number : ℕ) → entry_at table number ≡ None → (one : Known) → Has (map record_known before) one → IsKnown number (Some one.1)
+  record_is_known : (number : ℕ) → entry_at table number ≡ None → (one : Known) → Has (map record_known before) one
+      → IsKnown number (Some one.1)
   record_is_known number absent one has =
       let made : (first : AccountRecord) × Has before first × (record_known first ≡ one) = made_has record_known before one has in
       sym (ap (λ (o : Known). o.1) made.2) ∙ sym (ap (option_map known_job) absent)
@@ -150,7 +157,8 @@ module _ (before : List AccountRecord) (rows : List Row) (decided : List Decided
 
   each_named : (number : ℕ) → has_record_of number before ≡ true → IsThere (job_at all number)
   each_named number is =
-      let one : (first : AccountRecord) × Has before first × (is_account_record_of number first ≡ true) = one_passes (is_account_record_of number) before is in
+      let one : (first : AccountRecord) × Has before first × (is_account_record_of number first ≡ true) =
+      one_passes (is_account_record_of number) before is in
       subst IsThere (sym (decided_put number))
       (found IsThere (job_at with_rows) (map decided_known decided) number
       (subst IsThere (sym (rows_put number))

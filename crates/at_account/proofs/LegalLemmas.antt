@@ -30,7 +30,8 @@ abbrev may_all : Option RecordState → List AccountEvent → Bool
 may_all record_state [] = true
 may_all record_state (event ∷ later) = event_may_follow record_state event && may_all (record_state_after record_state event) later
 
-legal_all : (before : List AccountRecord) (number : ℕ) (record_state : Option RecordState) (events : List AccountEvent) → IsRecordStateAt before number record_state
+legal_all : (before : List AccountRecord) (number : ℕ) (record_state : Option RecordState) (events : List AccountEvent)
+    → IsRecordStateAt before number record_state
     → may_all record_state events ≡ true → AreLegalAfter IsRecordAllowed before (map (of_number number) events)
 legal_all before number record_state [] holds may = tt
 legal_all before number record_state (event ∷ later) holds may =
@@ -43,7 +44,8 @@ legal_all before number record_state (event ∷ later) holds may =
 
 -- the events as one list
 each_of : (number : ℕ) (first second third : Option AccountEvent)
-    → (records_of number first ++ records_of number second) ++ records_of number third ≡ map (of_number number) ((one_of first ++ one_of second) ++ one_of third)
+    → (records_of number first ++ records_of number second) ++ records_of number third
+    ≡ map (of_number number) ((one_of first ++ one_of second) ++ one_of third)
 each_of number None None None = refl
 each_of number None None (Some third) = refl
 each_of number None (Some second) None = refl
@@ -55,7 +57,8 @@ each_of number (Some first) (Some second) (Some third) = refl
 
 -- the events of a job
 abbrev events_of : Bool → Bool → Bool → Option KnownJob → List AccountEvent
-events_of seen started closed known = (one_of (seen_event seen known) ++ one_of (start_event seen started closed known)) ++ one_of (closing_event seen closed known)
+events_of seen started closed known =
+    (one_of (seen_event seen known) ++ one_of (start_event seen started closed known)) ++ one_of (closing_event seen closed known)
 
 may_of_seen : (owner : Owner) (started closed : Bool) (known : Option KnownJob)
     → may_all (Some (record { owner = owner; started = started; closed = closed })) (events_of true started closed known) ≡ true
@@ -81,11 +84,13 @@ may_of None (Some (Live owner false)) = refl
 may_of None (Some (Done fate)) = refl
 may_of (Some record_state) known = may_of_seen record_state.owner record_state.started record_state.closed known
 
-pub news_legal : (before : List AccountRecord) (number : ℕ) (record_state : Option RecordState) (known : Option KnownJob) → IsRecordStateAt before number record_state
+pub news_legal : (before : List AccountRecord) (number : ℕ) (record_state : Option RecordState) (known : Option KnownJob)
+    → IsRecordStateAt before number record_state
     → AreLegalAfter IsRecordAllowed before (news_of before number known)
 news_legal before number record_state known holds =
     let said = said_by record_state in
     subst (AreLegalAfter IsRecordAllowed before)
-    (sym (each_of number (seen_event said.seen known) (start_event said.seen said.started said.closed known) (closing_event said.seen said.closed known))
+    (sym (each_of number (seen_event said.seen known) (start_event said.seen said.started said.closed known)
+    (closing_event said.seen said.closed known))
     ∙ sym (events_told before number record_state known holds))
     (legal_all before number record_state (events_of said.seen said.started said.closed known) holds (may_of record_state known))

@@ -41,19 +41,24 @@ all_below : (first : Tallied) (later : List Tallied) → AllByRecursion (λ (key
 all_below first [] below = tt
 all_below first (one ∷ later) below = (below.0, all_below first later below.1)
 
-ordered_lines : (entries : List Tallied) → IsStrictlySortedBy pair_cmp (keys_of entries) → IsStrictlySortedBy owner_cmp (map line_owner (map owner_line entries))
+ordered_lines : (entries : List Tallied) → IsStrictlySortedBy pair_cmp (keys_of entries)
+    → IsStrictlySortedBy owner_cmp (map line_owner (map owner_line entries))
 unfolding IsStrictlySortedBy
 ordered_lines [] ordered = tt
 ordered_lines (one ∷ later) ordered = (all_below one later ordered.0, ordered_lines later ordered.1)
 
 -- what a look-up finds is in the list
-found_has : (test : Pair → Bool) (entries : List Tallied) (counts : List ℕ) → lookup test entries ≡ Some counts → (one : Tallied) × Has entries one × (test one.0 ≡ true)
+found_has : (test : Pair → Bool) (entries : List Tallied) (counts : List ℕ) → lookup test entries ≡ Some counts
+    → (one : Tallied) × Has entries one × (test one.0 ≡ true)
 found_has test [] counts is = let impossible : None ≡ Some counts = is in cc
 found_has test (one ∷ later) counts is = by_test (test one.0) refl is (found_has test later counts) where
   by_test : (here : Bool) → test one.0 ≡ here → cond here (Some one.1) (lookup test later) ≡ Some counts
-      → (lookup test later ≡ Some counts → (one : Tallied) × Has later one × (test one.0 ≡ true)) → (other : Tallied) × Has (one ∷ later) other × (test other.0 ≡ true)
+      → (lookup test later ≡ Some counts → (one : Tallied) × Has later one × (test one.0 ≡ true))
+      → (other : Tallied) × Has (one ∷ later) other × (test other.0 ≡ true)
   by_test true here found rest = (one, inl refl, here)
-  by_test false here found rest = let more : (one : Tallied) × Has later one × (test one.0 ≡ true) = rest found in (more.0, inr more.1, more.2)
+  by_test false here found rest =
+      let more : (one : Tallied) × Has later one × (test one.0 ≡ true) = rest found in
+      (more.0, inr more.1, more.2)
 
 is_equal : (order : Ordering) → is_eq order ≡ true → order ≡ Equal
 is_equal Less is = let impossible : false ≡ true = is in cc
@@ -63,20 +68,25 @@ is_equal Greater is = let impossible : false ≡ true = is in cc
 -- an owner was met where some record saw a job with it
 met_seen : (all : List AccountRecord) (owner : Owner) → is_met all all owner ≡ true → is_owner_seen owner all ≡ true
 met_seen all owner met =
-    let one : (one : AccountRecord) × Has all one × (is_seen_with one.number owner all ≡ true) = one_passes (λ (one : AccountRecord). is_seen_with one.number owner all) all met in
-    let saw : (other : AccountRecord) × Has all other × ((is_account_record_of one.0.number other && is_seeing_of owner other.event) ≡ true) =
+    let one : (one : AccountRecord) × Has all one × (is_seen_with one.number owner all ≡ true) =
+    one_passes (λ (one : AccountRecord). is_seen_with one.number owner all) all met in
+    let saw : (other : AccountRecord) × Has all other
+    × ((is_account_record_of one.0.number other && is_seeing_of owner other.event) ≡ true) =
     one_passes (λ (other : AccountRecord). is_account_record_of one.0.number other && is_seeing_of owner other.event) all one.2 in
-    any_passes (λ (other : AccountRecord). is_seeing_of owner other.event) all saw.0 saw.1 (and_parts (is_account_record_of one.0.number saw.0) (is_seeing_of owner saw.0.event) saw.2).1
+    any_passes (λ (other : AccountRecord). is_seeing_of owner other.event) all saw.0 saw.1
+    (and_parts (is_account_record_of one.0.number saw.0) (is_seeing_of owner saw.0.event) saw.2).1
 
 seen_met : (all : List AccountRecord) (owner : Owner) → is_owner_seen owner all ≡ true → is_met all all owner ≡ true
 seen_met all owner seen =
-    let saw : (one : AccountRecord) × Has all one × (is_seeing_of owner one.event ≡ true) = one_passes (λ (one : AccountRecord). is_seeing_of owner one.event) all seen in
+    let saw : (one : AccountRecord) × Has all one × (is_seeing_of owner one.event ≡ true) =
+    one_passes (λ (one : AccountRecord). is_seeing_of owner one.event) all seen in
     let same : is_account_record_of saw.0.number saw.0 ≡ true = grind (arith, nat_tests) in
     any_passes (λ (one : AccountRecord). is_seen_with one.number owner all) all saw.0 saw.1
     (any_passes (λ (other : AccountRecord). is_account_record_of saw.0.number other && is_seeing_of owner other.event) all saw.0 saw.1
     (and_from (is_account_record_of saw.0.number saw.0) (is_seeing_of owner saw.0.event) same saw.2))
 
-pub are_totals : (all : List AccountRecord) (tally : BTreeMap Pair (List ℕ)) (lines : List AccountLine) → tree.IsOrdered pair_cmp tally → length all < 2 ^ 64
+pub are_totals : (all : List AccountRecord) (tally : BTreeMap Pair (List ℕ)) (lines : List AccountLine)
+    → tree.IsOrdered pair_cmp tally → length all < 2 ^ 64
     → IsTallyOf all all tally → lines ≡ map owner_line tally.entries → AreTotals all lines
 are_totals all tally lines ordered fits tallied is = subst (AreTotals all) (sym is) (record {
   ordered = ordered_lines tally.entries ordered;
@@ -85,24 +95,34 @@ are_totals all tally lines ordered fits tallied is = subst (AreTotals all) (sym 
   all = every;
 }) where
   -- what holds of each entry
-  of_entry : (one : Tallied) → Has tally.entries one → (is_owner_seen (line_owner (owner_line one)) all ≡ true) × HasCounts all (owner_line one)
+  of_entry : (one : Tallied) → Has tally.entries one → (is_owner_seen (line_owner (owner_line one)) all ≡ true)
+      × HasCounts all (owner_line one)
   of_entry one has =
-      let found : tree.get pair_cmp tally one.0 ≡ Some one.1 = All-contains (λ (e : Tallied). tree.get pair_cmp tally e.0 ≡ Some e.1) tally.entries one (All-found pair_total tally ordered) (contained tally.entries one has) in
-      let counted : IsTallied all all (line_owner (owner_line one)) (Some one.1) = subst (IsTallied all all (line_owner (owner_line one))) found (tallied (line_owner (owner_line one))) in
+      let found : tree.get pair_cmp tally one.0 ≡ Some one.1 = All-contains (λ (e : Tallied). tree.get pair_cmp tally e.0 ≡ Some e.1)
+      tally.entries one (All-found pair_total tally ordered) (contained tally.entries one has) in
+      let counted : IsTallied all all (line_owner (owner_line one)) (Some one.1) =
+      subst (IsTallied all all (line_owner (owner_line one))) found (tallied (line_owner (owner_line one))) in
       (met_seen all (line_owner (owner_line one)) counted.0, λ kind inside. counted.1 kind inside fits)
 
-  of_line : (line : AccountLine) → Contains (map owner_line tally.entries) line → (is_owner_seen (line_owner line) all ≡ true) × HasCounts all line
+  of_line : (line : AccountLine) → Contains (map owner_line tally.entries) line
+      → (is_owner_seen (line_owner line) all ≡ true) × HasCounts all line
   of_line line has =
-      let made : (one : Tallied) × Has tally.entries one × (owner_line one ≡ line) = made_has owner_line tally.entries line (has_contained (map owner_line tally.entries) line has) in
+      let made : (one : Tallied) × Has tally.entries one × (owner_line one ≡ line) =
+      made_has owner_line tally.entries line (has_contained (map owner_line tally.entries) line has) in
       subst (λ l. (is_owner_seen (line_owner l) all ≡ true) × HasCounts all l) made.2 (of_entry made.0 made.1)
 
   every : (owner : Owner) → is_owner_seen owner all ≡ true → Contains (map line_owner (map owner_line tally.entries)) owner
   every owner seen = by_counts (tree.get pair_cmp tally (owner_pair owner)) refl where
-    by_counts : (counts : Option (List ℕ)) → tree.get pair_cmp tally (owner_pair owner) ≡ counts → Contains (map line_owner (map owner_line tally.entries)) owner
-    by_counts None none = absurd (let unmet : is_met all all owner ≡ false = subst (IsTallied all all owner) none (tallied owner) in let met = seen_met all owner seen in cc)
+    by_counts : (counts : Option (List ℕ)) → tree.get pair_cmp tally (owner_pair owner) ≡ counts
+        → Contains (map line_owner (map owner_line tally.entries)) owner
+    by_counts None none = absurd (let unmet : is_met all all owner ≡ false = subst (IsTallied all all owner) none (tallied owner) in
+        let met = seen_met all owner seen in cc)
     by_counts (Some counts) found =
-        let one : (one : Tallied) × Has tally.entries one × (is_at (pair_cmp (owner_pair owner)) one.0 ≡ true) = found_has (is_at (pair_cmp (owner_pair owner))) tally.entries counts found in
-        let same : owner_pair owner ≡ one.0.0 = exact_pair (owner_pair owner) one.0.0 (is_equal (pair_cmp (owner_pair owner) one.0.0) one.2) in
+        let one : (one : Tallied) × Has tally.entries one × (is_at (pair_cmp (owner_pair owner)) one.0 ≡ true) =
+        found_has (is_at (pair_cmp (owner_pair owner))) tally.entries counts found in
+        let same : owner_pair owner ≡ one.0.0 =
+        exact_pair (owner_pair owner) one.0.0 (is_equal (pair_cmp (owner_pair owner) one.0.0) one.2) in
         let owner_is : line_owner (owner_line one.0) ≡ owner = sym (ap (λ (pair : Pair). record { user = pair.0; queue = pair.1 }) same) in
         contained (map line_owner (map owner_line tally.entries)) owner
-        (subst (Has (map line_owner (map owner_line tally.entries))) owner_is (has_made line_owner (map owner_line tally.entries) (owner_line one.0) (has_made owner_line tally.entries one.0 one.1)))
+        (subst (Has (map line_owner (map owner_line tally.entries))) owner_is
+        (has_made line_owner (map owner_line tally.entries) (owner_line one.0) (has_made owner_line tally.entries one.0 one.1)))

@@ -15,7 +15,8 @@ record Tells (before : List AccountRecord) (number : ℕ) (said : Said) : Type 0
   started : has_start_record number before ≡ said.started
   closed : has_closing_record number before ≡ said.closed
 
-said_told : (before : List AccountRecord) (number : ℕ) (record_state : Option RecordState) → IsRecordStateAt before number record_state → Tells before number (said_by record_state)
+said_told : (before : List AccountRecord) (number : ℕ) (record_state : Option RecordState) → IsRecordStateAt before number record_state
+    → Tells before number (said_by record_state)
 said_told before number None holds = record {
   seen = none_says (is_account_record_of number) (λ one. is_seeing one.event) before holds;
   started = none_says (is_account_record_of number) (λ one. is_start one.event) before holds;
@@ -28,8 +29,10 @@ said_told before number (Some record_state) holds = record {
 }
 
 -- what is new, by the standing
-pub events_told : (before : List AccountRecord) (number : ℕ) (record_state : Option RecordState) (known : Option KnownJob) → IsRecordStateAt before number record_state
-    → news_of before number known ≡ events_by number (said_by record_state).seen (said_by record_state).started (said_by record_state).closed known
+pub events_told : (before : List AccountRecord) (number : ℕ) (record_state : Option RecordState) (known : Option KnownJob)
+    → IsRecordStateAt before number record_state
+    → news_of before number known
+    ≡ events_by number (said_by record_state).seen (said_by record_state).started (said_by record_state).closed known
 events_told before number record_state known holds =
     let told = said_told before number record_state holds in
     ap (λ s. events_by number s (has_start_record number before) (has_closing_record number before) known) told.seen
@@ -55,4 +58,5 @@ news_added before number record_state known said old one two three holds is firs
     ap (λ s. events_by number s (has_start_record number before) (has_closing_record number before) known) seen
     ∙ ap (λ s. events_by number said.seen s (has_closing_record number before) known) started
     ∙ ap (λ s. events_by number said.seen said.started s known) closed in
-    third ∙ ap (λ t. t ++ d) (second ∙ ap (λ t. t ++ b) first ∙ append_assoc old a b) ∙ append_assoc old (a ++ b) d ∙ ap (λ t. old ++ t) (sym all)
+    third ∙ ap (λ t. t ++ d) (second ∙ ap (λ t. t ++ b) first ∙ append_assoc old a b) ∙ append_assoc old (a ++ b) d
+    ∙ ap (λ t. old ++ t) (sym all)

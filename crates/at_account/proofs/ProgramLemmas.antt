@@ -23,7 +23,11 @@ use Rattle.at_account.specs.AccountOutcome.{Accounting, IsAccounting, AccountLea
 -- nothing was done
 same_session : (session : Session) → IsOutside session → IsLeft session session
 same_session session outside =
-    record { outside = outside; children = refl; counts = record { made_as = refl; file_faults = omega arith; start_faults = omega arith; taken = omega arith } }
+    record {
+      outside = outside;
+      children = refl;
+      counts = record { made_as = refl; file_faults = omega arith; start_faults = omega arith; taken = omega arith };
+    }
 
 same_silent : (at : SinkAt) → IsSilent at at
 same_silent at = record { content = refl; later = omega arith }
@@ -37,7 +41,8 @@ not_both asked fault show first second = let no : ◌≡◌ {A = Result Bool Wor
 
 module _ (asked : Result Bool WordsFault) (at : OutsideAt) (outside : IsOutside at.session) where
   -- words that were refused
-  refused : (fault : WordsFault) → Err fault ≡ asked → words_cause fault ≢ FileFault → words_cause fault ≢ Busy → words_cause fault ≢ OutputFault → Accounting asked at at (words_cause fault)
+  refused : (fault : WordsFault) → Err fault ≡ asked → words_cause fault ≢ FileFault → words_cause fault ≢ Busy
+      → words_cause fault ≢ OutputFault → Accounting asked at at (words_cause fault)
   refused fault is no_file no_busy no_output = record {
     left = same_session at.session outside;
     goes_on = λ tells. goes_on_none at.holds.spool at.holds.spool refl;
@@ -45,7 +50,12 @@ module _ (asked : Result Bool WordsFault) (at : OutsideAt) (outside : IsOutside 
     busy = λ same. absurd (no_busy same);
     output_fault = λ same. absurd (no_output same);
     made_as = refl;
-    unasked = λ other was. record { because = inl (ap words_cause (same_fault asked fault other is was)); session = refl; spool = refl; unchecked = λ tells. same_silent at.holds.output };
+    unasked = λ other was. record {
+      because = inl (ap words_cause (same_fault asked fault other is was));
+      session = refl;
+      spool = refl;
+      unchecked = λ tells. same_silent at.holds.output;
+    };
     may_end = λ show was. absurd (not_both asked fault show is was);
     images = λ tells alone. changes_none (IsAccounting at.holds.spool.now.directory) at.holds.spool;
     leaves = λ show was tells alone. absurd (not_both asked fault show is was);
@@ -72,7 +82,8 @@ module _ (asked : Result Bool WordsFault) (at : OutsideAt) (outside : IsOutside 
   unasked_ends words.Memory is = unread
 
 -- what is left where the line of a cause ran out of memory
-no_memory_leaves : (show output : Bool) (old new : World) (was now : SinkAt) (cause : Cause) → IsFailure cause → AccountLeaves show output old new was now cause → AccountLeaves show output old new was now Memory
+no_memory_leaves : (show output : Bool) (old new : World) (was now : SinkAt) (cause : Cause) → IsFailure cause
+    → AccountLeaves show output old new was now cause → AccountLeaves show output old new was now Memory
 no_memory_leaves show output old new was now OutputFault undone is = λ tells.
     let cut = is.2 tells in
     inr (is.0, is.1, record { count = cut.count; content = cut.content; later = cut.later })
@@ -93,14 +104,21 @@ module _ (asked : Result Bool WordsFault) (old new : OutsideAt) (cause : Cause) 
     busy = λ same. (let no : Memory ≡ Busy = same in cc);
     output_fault = λ same. (let no : Memory ≡ OutputFault = same in cc);
     made_as = ends.made_as;
-    unasked = λ fault was. record { because = inr refl; session = (ends.unasked fault was).session; spool = (ends.unasked fault was).spool; unchecked = (ends.unasked fault was).unchecked };
+    unasked = λ fault was. record {
+      because = inr refl;
+      session = (ends.unasked fault was).session;
+      spool = (ends.unasked fault was).spool;
+      unchecked = (ends.unasked fault was).unchecked;
+    };
     may_end = λ show was. tt;
     images = ends.images;
-    leaves = λ show was tells alone. no_memory_leaves show old.tells.output old.holds.spool new.holds.spool old.holds.output new.holds.output cause undone (ends.leaves show was tells alone);
+    leaves = λ show was tells alone. no_memory_leaves show old.tells.output old.holds.spool new.holds.spool old.holds.output
+        new.holds.output cause undone (ends.leaves show was tells alone);
   }
 
   -- the line of the cause was said, or ran out of memory
-  pub said_ends : (tool : List ℕ) (tells : Bool) (err_old err_new : SinkAt) (final : Cause) → IsSaid tool tells cause err_old err_new final → Accounting asked old new final
+  pub said_ends : (tool : List ℕ) (tells : Bool) (err_old err_new : SinkAt) (final : Cause) → IsSaid tool tells cause err_old err_new final
+      → Accounting asked old new final
   said_ends tool tells err_old err_new final said = elim said [
     | inl as_is ↦ subst (Accounting asked old new) (sym as_is.0) ends
     | inr lacks ↦ subst (Accounting asked old new) (sym lacks.1) (no_memory_ends lacks.0)
@@ -113,7 +131,11 @@ none_in_part line old new quiet = record { count = 0; content = quiet.content �
 -- a line that was put, or cut, was put in part
 in_part : (line : List ℕ) (old new : SinkAt) → IsPutOrCut line old new → IsPutInPart line old new
 in_part line old new put = elim put [
-  | inl whole ↦ record { count = length line; content = whole.content ∙ ap (λ rest. old.content ++ rest) (sym (take_all (length line) line (omega arith))); later = whole.later }
+  | inl whole ↦ record {
+    count = length line;
+    content = whole.content ∙ ap (λ rest. old.content ++ rest) (sym (take_all (length line) line (omega arith)));
+    later = whole.later;
+  }
   | inr cut ↦ record { count = cut.count; content = cut.content; later = cut.later }
 ]
 
@@ -121,7 +143,8 @@ line_said : (tool : List ℕ) (old new : SinkAt) (cause : Cause) → SaysLine to
 line_said tool old new Memory says = in_part (cause_line_of tool Memory) old new says
 line_said tool old new _ says = says
 
-pub said_line : (tool : List ℕ) (tells : Bool) (cause : Cause) (old new : SinkAt) (final : Cause) → IsSaid tool tells cause old new final → tells ≡ true → EndsLine tool final old new
+pub said_line : (tool : List ℕ) (tells : Bool) (cause : Cause) (old new : SinkAt) (final : Cause) → IsSaid tool tells cause old new final
+    → tells ≡ true → EndsLine tool final old new
 said_line tool tells cause old new final said known = elim said [
   | inl as_is ↦ subst (λ of. EndsLine tool of old new) (sym as_is.0) (line_said tool old new cause (as_is.1 known))
   | inr lacks ↦ subst (λ of. EndsLine tool of old new) (sym lacks.1) (none_in_part (cause_line_of tool Memory) old new (lacks.2 known))

@@ -61,20 +61,24 @@ abbrev pub Ends : Bool → World → World → Result (List ℕ) CommandError �
 Ends show old new (Ok text) = IsAccounted show old new text
 Ends show old new (Err stopped) = Stops old new stopped.cause
 
-ends_inside : (show : Bool) (old new : World) (result : Result (List ℕ) CommandError) → EndsInside show old new result → Ends show old new result
+ends_inside : (show : Bool) (old new : World) (result : Result (List ℕ) CommandError) → EndsInside show old new result
+    → Ends show old new result
 ends_inside show old new (Ok text) is = is
 ends_inside show old new (Err stopped) is = stops_inside old new stopped.cause is
 
-module _ {H F : Type 0} (g : Ghosts H) (calls : Calls H F (Result (List ℕ) CommandError)) (work left : F) (old new : H) (result : Result (List ℕ) CommandError)
+module _ {H F : Type 0} (g : Ghosts H) (calls : Calls H F (Result (List ℕ) CommandError)) (work left : F) (old new : H)
+    (result : Result (List ℕ) CommandError)
     (ends : EndsCommandSession g calls work left old new result) where
   -- why the session ended
-  pub session_may_end : ((first last : H) → CalledAtMut calls work first result left last → IfErr result (λ stopped. IsAccountingCause stopped.cause)) →
+  pub session_may_end : ((first last : H) → CalledAtMut calls work first result left last
+      → IfErr result (λ stopped. IsAccountingCause stopped.cause)) →
       IfErr result (λ stopped. MayEndAccount stopped.cause)
   session_may_end within = elim ends [
     | inl none ↦ subst (λ of. IfErr of (λ stopped. MayEndAccount stopped.cause)) (sym none.is) (entry_may_end none.fault)
     | inr done ↦ by_result result (within done.first done.last done.did)
   ] where
-    by_result : (of : Result (List ℕ) CommandError) → IfErr of (λ stopped. IsAccountingCause stopped.cause) → IfErr of (λ stopped. MayEndAccount stopped.cause)
+    by_result : (of : Result (List ℕ) CommandError) → IfErr of (λ stopped. IsAccountingCause stopped.cause)
+        → IfErr of (λ stopped. MayEndAccount stopped.cause)
     by_result (Ok text) is = tt
     by_result (Err stopped) is = work_may_end stopped.cause is
 
@@ -83,10 +87,13 @@ module _ {H F : Type 0} (g : Ghosts H) (calls : Calls H F (Result (List ℕ) Com
       → ChangesFiles (IsAccounting (g.world first).now.directory) (g.world first) (g.world last))
       → g.tells ≡ true → g.alone ≡ true → ChangesFiles (IsAccounting (g.world old).now.directory) (g.world old) (g.world new)
   session_images within tells alone = elim ends [
-    | inl none ↦ subst (λ now. ChangesFiles (IsAccounting (g.world old).now.directory) (g.world old) now) (sym (none.undone.refused.quiet.alone tells alone))
+    | inl none ↦ subst (λ now. ChangesFiles (IsAccounting (g.world old).now.directory) (g.world old) now)
+        (sym (none.undone.refused.quiet.alone tells alone))
         (changes_none (IsAccounting (g.world old).now.directory) (g.world old))
-    | inr done ↦ subst (λ now. ChangesFiles (IsAccounting (g.world old).now.directory) (g.world old) now) (sym (done.quiet.alone tells alone))
-        (subst (λ (from : World). ChangesFiles (IsAccounting from.now.directory) from (g.world done.last)) (done.begun.quiet.alone tells alone)
+    | inr done ↦
+        subst (λ now. ChangesFiles (IsAccounting (g.world old).now.directory) (g.world old) now) (sym (done.quiet.alone tells alone))
+        (subst (λ (from : World). ChangesFiles (IsAccounting from.now.directory) from (g.world done.last))
+        (done.begun.quiet.alone tells alone)
         (within done.first done.last done.did tells))
   ]
 
@@ -107,7 +114,8 @@ same_silent : (at : SinkAt) → IsSilent at at
 same_silent at = record { content = refl; later = omega arith }
 
 -- the session was stopped
-pub stopped_leaves : (show output : Bool) (old new : World) (at : SinkAt) (cause : Cause) → MayEndAccount cause → Stops old new cause → AccountLeaves show output old new at at cause
+pub stopped_leaves : (show output : Bool) (old new : World) (at : SinkAt) (cause : Cause) → MayEndAccount cause → Stops old new cause
+    → AccountLeaves show output old new at at cause
 stopped_leaves show output old new at FileFault may is = λ tells. same_silent at
 stopped_leaves show output old new at Memory may is = λ tells. inl (same_silent at)
 stopped_leaves show output old new at Busy may is = (is, λ tells. same_silent at)
@@ -116,7 +124,8 @@ stopped_leaves show output old new at (Refused refusal) may is = (is, λ tells. 
 stopped_leaves show output old new at _ may is = absurd is
 
 -- the text was put, or not
-pub put_leaves : (show output : Bool) (old new : World) (was now : SinkAt) (text : List ℕ) (cause : Cause) → PutsWhole output text was now cause
+pub put_leaves : (show output : Bool) (old new : World) (was now : SinkAt) (text : List ℕ) (cause : Cause)
+    → PutsWhole output text was now cause
     → IsAccounted show old new text → AccountLeaves show output old new was now cause
 put_leaves show output old new was now text Done puts done = (text, done, puts)
 put_leaves show output old new was now text OutputFault puts done = (text, done, puts.1)

@@ -44,38 +44,52 @@ HasFitOwner None = Unit {0}
 HasFitOwner (Some (job.Live owner running)) = IsFit owner
 HasFitOwner (Some (job.Done fate)) = Unit {0}
 
-seen_fit : (seen : Bool) (known : Option KnownJob) (event : AccountEvent) → HasFitOwner known → seen_event seen known ≡ Some event → HasOwner event
+seen_fit : (seen : Bool) (known : Option KnownJob) (event : AccountEvent) → HasFitOwner known
+    → seen_event seen known ≡ Some event → HasOwner event
 seen_fit true known event fit is = let impossible : None ≡ Some event = is in cc
 seen_fit false None event fit is = let impossible : None ≡ Some event = is in cc
 seen_fit false (Some (job.Live owner running)) event fit is = let same : Seen owner ≡ event = cc in subst HasOwner same fit
 seen_fit false (Some (job.Done fate)) event fit is = let impossible : None ≡ Some event = is in cc
 
-start_fit : (seen started closed : Bool) (known : Option KnownJob) (event : AccountEvent) → start_event seen started closed known ≡ Some event → HasOwner event
-start_fit seen started closed known event is = by_test ((seen || is_known_live known) && not started && not closed && is_handed_over known) refl where
-  by_test : (starts : Bool) → ((seen || is_known_live known) && not started && not closed && is_handed_over known) ≡ starts → HasOwner event
-  by_test true now =
-      let same : Started ≡ event = (let there : start_event seen started closed known ≡ Some Started = rw now refl in cc) in
-      subst HasOwner same tt
-  by_test false now = absurd (let none : start_event seen started closed known ≡ None = rw now refl in let impossible : None ≡ Some event = sym none ∙ is in cc)
+start_fit : (seen started closed : Bool) (known : Option KnownJob) (event : AccountEvent)
+    → start_event seen started closed known ≡ Some event → HasOwner event
+start_fit seen started closed known event is =
+    by_test ((seen || is_known_live known) && not started && not closed && is_handed_over known) refl
+  where
+    by_test : (starts : Bool) → ((seen || is_known_live known) && not started && not closed && is_handed_over known)
+        ≡ starts → HasOwner event
+    by_test true now =
+        let same : Started ≡ event = (let there : start_event seen started closed known ≡ Some Started = rw now refl in cc) in
+        subst HasOwner same tt
+    by_test false now = absurd (let none : start_event seen started closed known ≡ None = rw now refl in
+        let impossible : None ≡ Some event = sym none ∙ is in cc)
 
-closing_fit : (seen closed : Bool) (known : Option KnownJob) (event : AccountEvent) → closing_event seen closed known ≡ Some event → HasOwner event
+closing_fit : (seen closed : Bool) (known : Option KnownJob) (event : AccountEvent)
+    → closing_event seen closed known ≡ Some event → HasOwner event
 closing_fit seen closed known event is = by_test (not seen || closed) refl where
   by_closing : (closing : Option Closing) → option_map Closed closing ≡ Some event → HasOwner event
   by_closing None found = let impossible : None ≡ Some event = found in cc
   by_closing (Some how) found = let same : Closed how ≡ event = cc in subst HasOwner same tt
 
   by_test : (none : Bool) → (not seen || closed) ≡ none → HasOwner event
-  by_test true now = absurd (let none : closing_event seen closed known ≡ None = rw now refl in let impossible : None ≡ Some event = sym none ∙ is in cc)
-  by_test false now = by_closing (closing_of known) (let all : closing_event seen closed known ≡ option_map Closed (closing_of known) = rw now refl in sym all ∙ is)
+  by_test true now =
+      absurd (let none : closing_event seen closed known ≡ None = rw now refl in let impossible : None ≡ Some event = sym none ∙ is in cc)
+  by_test false now = by_closing (closing_of known) (let all : closing_event seen closed known ≡ option_map Closed (closing_of known) =
+      rw now refl in sym all ∙ is)
 
 -- what is new of a number has such an owner
-news_fit : (before : List AccountRecord) (number : ℕ) (known : Option KnownJob) (one : AccountRecord) → HasFitOwner known → Has (news_of before number known) one → HasOwner one.event
+news_fit : (before : List AccountRecord) (number : ℕ) (known : Option KnownJob) (one : AccountRecord) → HasFitOwner known
+    → Has (news_of before number known) one → HasOwner one.event
 news_fit before number known one fit has = elim (has_either (first ++ second) third one has) [
   | inl early ↦ elim (has_either first second one early) [
-    | inl in_first ↦ seen_fit (is_seen number before) known one.event fit (event_of number (seen_event (is_seen number before) known) one in_first)
-    | inr in_second ↦ start_fit (is_seen number before) (has_start_record number before) (has_closing_record number before) known one.event (event_of number (start_event (is_seen number before) (has_start_record number before) (has_closing_record number before) known) one in_second)
+    | inl in_first ↦
+        seen_fit (is_seen number before) known one.event fit (event_of number (seen_event (is_seen number before) known) one in_first)
+    | inr in_second ↦ start_fit (is_seen number before) (has_start_record number before)
+        (has_closing_record number before) known one.event (event_of number
+        (start_event (is_seen number before) (has_start_record number before) (has_closing_record number before) known) one in_second)
   ]
-  | inr late ↦ closing_fit (is_seen number before) (has_closing_record number before) known one.event (event_of number (closing_event (is_seen number before) (has_closing_record number before) known) one late)
+  | inr late ↦ closing_fit (is_seen number before) (has_closing_record number before) known one.event
+      (event_of number (closing_event (is_seen number before) (has_closing_record number before) known) one late)
 ] where
   first : List AccountRecord
   first = records_of number (seen_event (is_seen number before) known)
@@ -86,8 +100,10 @@ news_fit before number known one fit has = elim (has_either (first ++ second) th
   third : List AccountRecord
   third = records_of number (closing_event (is_seen number before) (has_closing_record number before) known)
 
-module _ (before new_records : List AccountRecord) (rows : List Row) (table : JobTable) (can : All (CanBeSpelled SpellsRecord) before) (sound : IsSound table)
-    (live : ListsLive table rows) (letters : HaveLetters rows) (named : (row : Row) → Contains rows row → IsUserName row.user) (are : AreNews before table new_records) where
+module _ (before new_records : List AccountRecord) (rows : List Row) (table : JobTable)
+    (can : All (CanBeSpelled SpellsRecord) before) (sound : IsSound table)
+    (live : ListsLive table rows) (letters : HaveLetters rows) (named : (row : Row) → Contains rows row → IsUserName row.user)
+    (are : AreNews before table new_records) where
   -- the owner of a live job
   fit_in : (number : ℕ) → HasFitOwner (known_in table number)
   fit_in number = by_entry (entry_at table number) refl where
@@ -96,15 +112,19 @@ module _ (before new_records : List AccountRecord) (rows : List Row) (table : Jo
     by_entry (Some (Done fate)) is = subst (λ e. HasFitOwner (option_map known_job e)) (sym is) tt
     by_entry (Some (Live one state)) is =
         let listed = live.all number one state is in
-        let fit : IsTrue (is_ascii_alphabetic listed.0.queue) × IsUserName listed.0.user = (letters listed.0 listed.1, named listed.0 listed.1) in
+        let fit : IsTrue (is_ascii_alphabetic listed.0.queue) × IsUserName listed.0.user =
+        (letters listed.0 listed.1, named listed.0 listed.1) in
         subst (λ e. HasFitOwner (option_map known_job e)) (ap (λ (e : ℕ × JobEntry). Some e.1) listed.2 ∙ sym is) fit
 
   -- the number of a record
-  number_fits : (number : ℕ) (one : AccountRecord) → Has (news_of before number (known_in table number)) one → (1 ≤ number) × (number < 2 ^ 32)
+  number_fits : (number : ℕ) (one : AccountRecord) → Has (news_of before number (known_in table number)) one
+      → (1 ≤ number) × (number < 2 ^ 32)
   number_fits number one has = by_test (has_record_of number before) refl where
-    by_entry : (entry : Option JobEntry) → entry_at table number ≡ entry → has_record_of number before ≡ false → (1 ≤ number) × (number < 2 ^ 32)
+    by_entry : (entry : Option JobEntry) → entry_at table number ≡ entry → has_record_of number before ≡ false
+        → (1 ≤ number) × (number < 2 ^ 32)
     by_entry None is unnamed =
-        let nothing : news_of before number (known_in table number) ≡ [] = ap (λ e. news_of before number (option_map known_job e)) is ∙ nothing_new before number unnamed in
+        let nothing : news_of before number (known_in table number) ≡ [] = ap (λ e. news_of before number (option_map known_job e)) is
+        ∙ nothing_new before number unnamed in
         absurd (subst (λ list. Has list one) nothing has)
     by_entry (Some entry) is unnamed =
         let drawn = sound.each number (subst IsSome (sym is) refl) in
@@ -115,8 +135,10 @@ module _ (before new_records : List AccountRecord) (rows : List Row) (table : Jo
 
     by_test : (named : Bool) → has_record_of number before ≡ named → (1 ≤ number) × (number < 2 ^ 32)
     by_test true named =
-        let found : (other : AccountRecord) × Has before other × (is_account_record_of number other ≡ true) = one_passes (is_account_record_of number) before named in
-        let spelled : CanBeSpelled SpellsRecord found.0 = All-contains (CanBeSpelled SpellsRecord) before found.0 can (contained before found.0 found.1) in
+        let found : (other : AccountRecord) × Has before other × (is_account_record_of number other ≡ true) =
+        one_passes (is_account_record_of number) before named in
+        let spelled : CanBeSpelled SpellsRecord found.0 =
+        All-contains (CanBeSpelled SpellsRecord) before found.0 can (contained before found.0 found.1) in
         let same : found.0.number ≡ number = eqb-true found.0.number number found.2 in
         let some = spelled.spelled.some in
         let fits = spelled.spelled.number.fits in
@@ -135,9 +157,12 @@ module _ (before new_records : List AccountRecord) (rows : List Row) (table : Jo
 
   pub news_can_be_written : All (CanBeSpelled SpellsRecord) new_records
   news_can_be_written = each_has new_records (λ one has. has) where
-    each_has : (list : List AccountRecord) → ((one : AccountRecord) → Has list one → Has new_records one) → All (CanBeSpelled SpellsRecord) list
+    each_has : (list : List AccountRecord) → ((one : AccountRecord) → Has list one → Has new_records one)
+        → All (CanBeSpelled SpellsRecord) list
     each_has [] all = All-nil (CanBeSpelled SpellsRecord)
-    each_has (one ∷ later) all = All-cons (CanBeSpelled SpellsRecord) one later (one_can one (all one (inl refl))) (each_has later (λ other has. all other (inr has)))
+    each_has (one ∷ later) all = All-cons (CanBeSpelled SpellsRecord) one later (one_can one (all one (inl refl)))
+        (each_has later (λ other has. all other (inr has)))
 
   pub all_can_be_written : (records : List AccountRecord) → records ≡ before ++ new_records → All (CanBeSpelled SpellsRecord) records
-  all_can_be_written records is = subst (All (CanBeSpelled SpellsRecord)) (sym is) (All-append (CanBeSpelled SpellsRecord) before new_records can news_can_be_written)
+  all_can_be_written records is =
+      subst (All (CanBeSpelled SpellsRecord)) (sym is) (All-append (CanBeSpelled SpellsRecord) before new_records can news_can_be_written)

@@ -40,8 +40,10 @@ letter_none (Closed Lost) = refl
 pub can_write : (one : AccountRecord) → 1 ≤ one.number → one.number < 2 ^ 32 → HasOwner one.event → CanBeSpelled SpellsRecord one
 can_write one some fits owner =
     let spelled : SpellsNumber (digits_of one.number) one.number = digits_spelled one.number (omega arith) in
-    let digits : HasNoNewline (digits_of one.number) = none_of is_ascii_alphanumeric 10 (digits_of one.number) refl (are_alphanumeric (digits_of one.number) one.number spelled) in
-    let both : HasNoNewline (digits_of one.number ++ owner_text one.event) = both_none (digits_of one.number) (owner_text one.event) digits (rest_none one.event owner) in
+    let digits : HasNoNewline (digits_of one.number) =
+    none_of is_ascii_alphanumeric 10 (digits_of one.number) refl (are_alphanumeric (digits_of one.number) one.number spelled) in
+    let both : HasNoNewline (digits_of one.number ++ owner_text one.event) =
+    both_none (digits_of one.number) (owner_text one.event) digits (rest_none one.event owner) in
     record {
       line = letter_of_event one.event ∷ 32 ∷ (digits_of one.number ++ owner_text one.event);
       whole = rw (letter_none one.event) both;

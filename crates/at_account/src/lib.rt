@@ -15,6 +15,7 @@ mod known;
 mod laws;
 mod ledger;
 mod line;
+mod lines;
 mod names;
 mod new_records;
 mod new_records_of_jobs;
@@ -23,7 +24,6 @@ mod program;
 mod record;
 mod record_line;
 mod session;
-mod show;
 mod tally;
 mod words;
 

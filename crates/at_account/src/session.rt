@@ -16,7 +16,7 @@ ghost use Rattle.at_account.specs.Names.{account_file};
 ghost use Rattle.at_account.specs.inside.Inside.{Accounts, Counts, EndsInside, IsAccountingCause};
 
 use crate::file::{read_account, write_account};
-use crate::show::shown_counts;
+use crate::lines::shown_counts;
 use crate::{Account, AccountFault};
 use host_calls::{Bytes, Host, Sink};
 use listing_text::{Cause, Refusal};

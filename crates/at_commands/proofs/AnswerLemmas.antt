@@ -42,7 +42,7 @@ use Rattle.at_commands.proofs.EndsLemmas.{ends_carried, ends_early}
 use Rattle.at_commands.proofs.UnreadLemmas.{unchecked}
 use Rattle.at_commands.proofs.ForLemmas.{carries_unentered, carries_unopened, keeps_lists, listing_lacks, listing_made, showing_done, showing_stopped}
 use Rattle.at_commands.proofs.SessionLemmas.{entry_of_spool, not_opened_of_spool, no_output_of_spool}
-use Rattle.at_commands.proofs.UserLemmas.{alone_is, user_fails, user_passes, zone_fails, zone_passes}
+use Rattle.command_rules.proofs.UserLemmas.{alone_is, user_fails, user_passes, zone_fails, zone_passes}
 
 -- The bytes of a user's name.
 
@@ -76,7 +76,8 @@ spool_notes _ IsLine at is = absurd is
 
 -- by requests that print nothing, and by those that say nothing
 module _ (tells alone : Bool) (asked : ToolRequest) (caller : Caller) (finding : Finding) (old new : World) where
-  pub prints_nothing : (cause : Cause) (carries : Carries tells alone asked caller finding old new cause) → ((table : JobTable) → RequestPrints asked caller table []) → (at : SinkAt) →
+  pub prints_nothing : (cause : Cause) (carries : Carries tells alone asked caller finding old new cause)
+      → ((table : JobTable) → RequestPrints asked caller table []) → (at : SinkAt) →
       tells ≡ true → alone ≡ true → PrintsBy cause (IsSessionText asked caller (finding carries.allow carries.deny) carries.shown) at at
   prints_nothing Done carries none at known is_alone =
       let ends : Achieves (AreUnrefusedSteps asked caller (finding carries.allow carries.deny)) old new = carries.spool known is_alone in (
@@ -98,7 +99,8 @@ module _ (tells alone : Bool) (asked : ToolRequest) (caller : Caller) (finding :
   prints_nothing (Damaged damage) carries none at known is_alone = unchecked at
   prints_nothing _ carries none at known is_alone = absurd carries.reach
 
-  notes_nothing : (cause : Cause) (carries : Carries tells alone asked caller finding old new cause) → ((zone : Zone) (found : Found) (number : ℕ) → RequestSays asked zone found number []) →
+  notes_nothing : (cause : Cause) (carries : Carries tells alone asked caller finding old new cause)
+      → ((zone : Zone) (found : Found) (number : ℕ) → RequestSays asked zone found number []) →
       (at : SinkAt) → NotesBy cause (IsSessionLine asked caller (finding carries.allow carries.deny) carries.shown) at at
   notes_nothing Done carries none at = (
     [],
@@ -121,16 +123,21 @@ module _ (tells alone : Bool) (asked : ToolRequest) (caller : Caller) (finding :
 
 pub listing_unentered : (tells alone : Bool) (asked : ToolRequest) (caller : Caller) (old new : World) (cause : Cause) → IsOfEntry cause →
     (tells ≡ true → alone ≡ true → new ≡ old) → ListsInSession tells alone asked caller old new (Err (error_of cause))
-listing_unentered tells alone asked caller old new cause entry same = record { carries = carries_unentered tells alone asked caller old new cause entry same; text = tt }
+listing_unentered tells alone asked caller old new cause entry same =
+    record { carries = carries_unentered tells alone asked caller old new cause entry same; text = tt }
 
-pub listing_unopened : (tells alone : Bool) (asked : ToolRequest) (caller : Caller) (old new : World) (user : List ℕ) (cause : Cause) → caller.context.user ≡ user →
+pub listing_unopened : (tells alone : Bool) (asked : ToolRequest) (caller : Caller) (old new : World) (user : List ℕ) (cause : Cause)
+    → caller.context.user ≡ user →
     IsNotOpened tells user old new cause → ListsInSession tells alone asked caller old new (Err (error_of cause))
 listing_unopened tells alone asked caller old new user cause same is =
     record { carries = carries_unopened tells alone asked caller old new user cause same is; text = tt }
 
-pub listing_of : (tells : Bool) (which : Filter) (caller : Caller) (user : List ℕ) (zone : Zone) (same : caller.context.user ≡ user) (same_zone : caller.zone ≡ zone)
-    (old middle new : World) (kept : Kept) (is_open : IsStoreOpened tells user old middle kept) → None ≡ filter_check user kept.table which → (tells ≡ true → new ≡ middle) →
-    (result : Result (List ℕ) CommandError) → IfOk result (IsListing zone kept.table user (passes_of which)) → IfErr result (λ stopped. stopped ≡ error_of Memory) →
+pub listing_of : (tells : Bool) (which : Filter) (caller : Caller) (user : List ℕ) (zone : Zone) (same : caller.context.user ≡ user)
+    (same_zone : caller.zone ≡ zone)
+    (old middle new : World) (kept : Kept) (is_open : IsStoreOpened tells user old middle kept) → None ≡ filter_check user kept.table which
+    → (tells ≡ true → new ≡ middle) →
+    (result : Result (List ℕ) CommandError) → IfOk result (IsListing zone kept.table user (passes_of which))
+    → IfErr result (λ stopped. stopped ≡ error_of Memory) →
     ListsInSession tells true (request.List which) caller old new result
 listing_of tells which caller user zone same same_zone old middle new kept is_open none still (Ok text) is lacks =
     listing_made tells which caller user zone same same_zone old middle new kept is_open text none still is
@@ -138,30 +145,39 @@ listing_of tells which caller user zone same same_zone old middle new kept is_op
     subst (λ (of : CommandError). ListsInSession tells true (request.List which) caller old new (Err of)) (sym lacks)
     (listing_lacks tells which caller user zone same same_zone old middle new kept is_open still)
 
-pub showing_unentered : (tells alone output : Bool) (asked : ToolRequest) (caller : Caller) (old new : World) (at : SinkAt) (cause : Cause) → IsOfEntry cause →
+pub showing_unentered : (tells alone output : Bool) (asked : ToolRequest) (caller : Caller) (old new : World) (at : SinkAt) (cause : Cause)
+    → IsOfEntry cause →
     (tells ≡ true → alone ≡ true → new ≡ old) → ShowsInSession tells alone output asked caller old new at at (Err (error_of cause))
 showing_unentered tells alone output asked caller old new at cause entry same =
-    let carries : Carries tells alone asked caller lists_alone old new cause = carries_unentered tells alone asked caller old new cause entry same in
+    let carries : Carries tells alone asked caller lists_alone old new cause =
+    carries_unentered tells alone asked caller old new cause entry same in
     record {
       carries = carries;
-      prints = λ known is_alone tells_output. spool_prints cause (IsSessionText asked caller (lists_alone carries.allow carries.deny) carries.shown) at (entry_of_spool cause entry);
+      prints = λ known is_alone tells_output. spool_prints cause
+          (IsSessionText asked caller (lists_alone carries.allow carries.deny) carries.shown) at (entry_of_spool cause entry);
     }
 
-pub showing_unopened : (tells alone output : Bool) (asked : ToolRequest) (caller : Caller) (old new : World) (at : SinkAt) (user : List ℕ) (cause : Cause) →
-    caller.context.user ≡ user → IsNotOpened tells user old new cause → ShowsInSession tells alone output asked caller old new at at (Err (error_of cause))
+pub showing_unopened : (tells alone output : Bool) (asked : ToolRequest) (caller : Caller) (old new : World) (at : SinkAt)
+    (user : List ℕ) (cause : Cause) →
+    caller.context.user ≡ user → IsNotOpened tells user old new cause
+    → ShowsInSession tells alone output asked caller old new at at (Err (error_of cause))
 showing_unopened tells alone output asked caller old new at user cause same is =
-    let carries : Carries tells alone asked caller lists_alone old new cause = carries_unopened tells alone asked caller old new user cause same is in
+    let carries : Carries tells alone asked caller lists_alone old new cause =
+    carries_unopened tells alone asked caller old new user cause same is in
     record {
       carries = carries;
       prints = λ known is_alone tells_output.
-          spool_prints cause (IsSessionText asked caller (lists_alone carries.allow carries.deny) carries.shown) at (not_opened_of_spool tells user old new cause is);
+          spool_prints cause (IsSessionText asked caller (lists_alone carries.allow carries.deny) carries.shown) at
+          (not_opened_of_spool tells user old new cause is);
     }
 
 -- the scripts were put, or a prefix of them
 pub showing_of : (tells output : Bool) (numbers : List ℕ) (caller : Caller) (user : List ℕ) (same : caller.context.user ≡ user)
-    (old middle new : World) (was is : SinkAt) (kept : Kept) (is_open : IsStoreOpened tells user old middle kept) → None ≡ jobs_check user false kept.table numbers →
+    (old middle new : World) (was is : SinkAt) (kept : Kept) (is_open : IsStoreOpened tells user old middle kept)
+    → None ≡ jobs_check user false kept.table numbers →
     (tells ≡ true → new ≡ middle) → (result : Result (Unit {0}) CommandError) → IfErr result ComesOfShowing →
-    (tells ≡ true → output ≡ true → (table : JobTable) → IsCurrent kept middle.now.directory table → PutsScriptsBy (scripts_of table numbers) was is result) →
+    (tells ≡ true → output ≡ true → (table : JobTable) → IsCurrent kept middle.now.directory table
+    → PutsScriptsBy (scripts_of table numbers) was is result) →
     ShowsInSession tells true output (request.Show numbers) caller old new was is result
 showing_of tells output numbers caller user same old middle new was is kept is_open none still (Ok value) comes puts =
     showing_done tells output numbers caller user same old middle new was is kept is_open none still puts
@@ -169,16 +185,19 @@ showing_of tells output numbers caller user same old middle new was is kept is_o
     showing_stopped tells output numbers caller user same old middle new was is kept is_open none still stopped.cause comes puts
 
 -- a text that is put at once fails at its output alone, or runs out of memory
-pub puts_no_file_fault : (tells : Bool) (text : List ℕ) (old new : SinkAt) (cause : Cause) → PutsWhole tells text old new cause → cause ≢ FileFault
+pub puts_no_file_fault : (tells : Bool) (text : List ℕ) (old new : SinkAt) (cause : Cause)
+    → PutsWhole tells text old new cause → cause ≢ FileFault
 puts_no_file_fault tells text old new cause puts same = subst (λ (of : Cause). PutsWhole tells text old new of) same puts
 
 pub puts_no_busy : (tells : Bool) (text : List ℕ) (old new : SinkAt) (cause : Cause) → PutsWhole tells text old new cause → cause ≢ Busy
 puts_no_busy tells text old new cause puts same = subst (λ (of : Cause). PutsWhole tells text old new of) same puts
 
-pub puts_no_input_fault : (tells : Bool) (text : List ℕ) (old new : SinkAt) (cause : Cause) → PutsWhole tells text old new cause → cause ≢ InputFault
+pub puts_no_input_fault : (tells : Bool) (text : List ℕ) (old new : SinkAt) (cause : Cause)
+    → PutsWhole tells text old new cause → cause ≢ InputFault
 puts_no_input_fault tells text old new cause puts same = subst (λ (of : Cause). PutsWhole tells text old new of) same puts
 
-pub puts_after_lock : (tells : Bool) (text : List ℕ) (old new : SinkAt) (cause : Cause) → PutsWhole tells text old new cause → StopsBeforeLock cause → ⊥
+pub puts_after_lock : (tells : Bool) (text : List ℕ) (old new : SinkAt) (cause : Cause) → PutsWhole tells text old new cause
+    → StopsBeforeLock cause → ⊥
 puts_after_lock tells text old new Done puts stops = stops
 puts_after_lock tells text old new OutputFault puts stops = stops
 puts_after_lock tells text old new Memory puts stops = stops
@@ -194,15 +213,19 @@ no_listing asks none is = let no : false ≡ true = sym none ∙ is in cc
 module _ (asked : ToolRequest) (caller : Caller) (tells : Telling) (at : Holding)
     (clock : (reached : Check) → answers_read (Ok asked) reached (pos 0) at.answers ≡ at.answers)
     (finds : (reached : Check) (found : Found) → Finds tells.input (Ok asked) caller.zone at.contents reached found) where
-  refused_early : (refusal : Refusal) → ((found : Found) → early_verdict asked caller found ≡ Some refusal) → is_earlier_check (check_of refusal) of_lock ≡ true →
+  refused_early : (refusal : Refusal) → ((found : Found) → early_verdict asked caller found ≡ Some refusal)
+      → is_earlier_check (check_of refusal) of_lock ≡ true →
       CommandEnds NotesBy (Ok asked) caller tells at at (Refused refusal)
   refused_early refusal verdict ahead =
       ends_early asked caller tells at at lists_alone keeps_lists (Refused refusal) (check_of refusal)
-      (λ allow deny. subst (λ (of : Option Refusal). KeepsOrder of (Refused refusal)) (sym (verdict (lists_alone allow deny))) (inl refl)) tt refl ahead
+      (λ allow deny. subst (λ (of : Option Refusal). KeepsOrder of (Refused refusal)) (sym (verdict (lists_alone allow deny))) (inl refl))
+      tt refl ahead
       (λ allow deny. refused_up_to (early_verdict asked caller (lists_alone allow deny)) refusal (verdict (lists_alone allow deny)))
-      (λ allow deny known. sym (clock (check_of refusal))) (λ allow deny. finds (check_of refusal) (lists_alone allow deny)) refl (unchecked at.output) (unchecked at.errors)
+      (λ allow deny known. sym (clock (check_of refusal))) (λ allow deny. finds (check_of refusal) (lists_alone allow deny)) refl
+      (unchecked at.output) (unchecked at.errors)
 
-first_refused : (refusal : Refusal) (later : List (Option Refusal)) (check : Option Refusal) → check ≡ Some refusal → first_refusal (check ∷ later) ≡ Some refusal
+first_refused : (refusal : Refusal) (later : List (Option Refusal)) (check : Option Refusal) → check ≡ Some refusal
+    → first_refusal (check ∷ later) ≡ Some refusal
 first_refused refusal later check is = ap (λ (of : Option Refusal). first_refusal (of ∷ later)) is
 
 first_passes : (later : List (Option Refusal)) (check : Option Refusal) → check ≡ None → first_refusal (check ∷ later) ≡ first_refusal later
@@ -215,21 +238,24 @@ removal_unnamed files alone numbers caller at none = λ output printed clock inp
     (λ reached. refl) (λ reached found. tt) BadUser
     (λ found. first_refused BadUser [] (user_check caller.context) (user_fails caller.context none)) refl
 
-pub showing_unnamed : (files alone output : Bool) (numbers : List ℕ) (caller : Caller) (at : World) (printed : SinkAt) → (IsUserName caller.context.user → ⊥) →
+pub showing_unnamed : (files alone output : Bool) (numbers : List ℕ) (caller : Caller) (at : World) (printed : SinkAt)
+    → (IsUserName caller.context.user → ⊥) →
     EndsPrinting files alone output (request.Show numbers) caller at at printed printed (Refused BadUser)
 showing_unnamed files alone output numbers caller at printed none = λ clock input errors answers contents said.
     refused_early (request.Show numbers) caller (telling files alone clock input output errors) (holding at answers contents printed said)
     (λ reached. refl) (λ reached found. tt) BadUser
     (λ found. first_refused BadUser [] (user_check caller.context) (user_fails caller.context none)) refl
 
-pub listing_unnamed : (files alone output : Bool) (which : Filter) (caller : Caller) (at : World) (printed : SinkAt) → (IsUserName caller.context.user → ⊥) →
+pub listing_unnamed : (files alone output : Bool) (which : Filter) (caller : Caller) (at : World) (printed : SinkAt)
+    → (IsUserName caller.context.user → ⊥) →
     EndsPrinting files alone output (request.List which) caller at at printed printed (Refused BadUser)
 listing_unnamed files alone output which caller at printed none = λ clock input errors answers contents said.
     refused_early (request.List which) caller (telling files alone clock input output errors) (holding at answers contents printed said)
     (λ reached. refl) (λ reached found. tt) BadUser
     (λ found. first_refused BadUser (zone_check caller.zone ∷ []) (user_check caller.context) (user_fails caller.context none)) refl
 
-pub listing_unzoned : (files alone output : Bool) (which : Filter) (caller : Caller) (at : World) (printed : SinkAt) → IsUserName caller.context.user →
+pub listing_unzoned : (files alone output : Bool) (which : Filter) (caller : Caller) (at : World) (printed : SinkAt)
+    → IsUserName caller.context.user →
     is_unreadable caller.zone ≡ true → EndsPrinting files alone output (request.List which) caller at at printed printed (Refused BadZone)
 listing_unzoned files alone output which caller at printed named unreadable = λ clock input errors answers contents said.
     refused_early (request.List which) caller (telling files alone clock input output errors) (holding at answers contents printed said)
@@ -239,8 +265,10 @@ listing_unzoned files alone output which caller at printed named unreadable = λ
 
 -- Removals.
 
-pub removal_ends : (files alone : Bool) (numbers : List ℕ) (caller : Caller) (old new : World) (cause : Cause) → IsUserName caller.context.user →
-    Carries files alone (request.Remove numbers) caller lists_alone old new cause → EndsRemoving files alone (request.Remove numbers) caller old new cause
+pub removal_ends : (files alone : Bool) (numbers : List ℕ) (caller : Caller) (old new : World) (cause : Cause)
+    → IsUserName caller.context.user →
+    Carries files alone (request.Remove numbers) caller lists_alone old new cause
+    → EndsRemoving files alone (request.Remove numbers) caller old new cause
 removal_ends files alone numbers caller old new cause named carries = λ output printed clock input errors answers contents said.
     ends_carried (request.Remove numbers) caller (telling files alone clock input output errors) (holding old answers contents printed said)
     (holding new answers contents printed said) lists_alone cause carries
@@ -252,7 +280,8 @@ removal_ends files alone numbers caller old new cause named carries = λ output 
 
 -- Showings.
 
-pub showing_ends : (files alone output : Bool) (numbers : List ℕ) (caller : Caller) (old new : World) (was is : SinkAt) (result : Result (Unit {0}) CommandError) →
+pub showing_ends : (files alone output : Bool) (numbers : List ℕ) (caller : Caller) (old new : World) (was is : SinkAt)
+    (result : Result (Unit {0}) CommandError) →
     IsUserName caller.context.user → ShowsInSession files alone output (request.Show numbers) caller old new was is result →
     EndsPrinting files alone output (request.Show numbers) caller old new was is (cause_in result)
 showing_ends files alone output numbers caller old new was is result named shows = λ clock input errors answers contents said.
@@ -261,7 +290,8 @@ showing_ends files alone output numbers caller old new was is result named shows
     (alone_is (user_check caller.context) ∙ user_passes caller.context named) (λ known. refl) tt
     shows.prints
     (λ known is_alone is same. absurd (no_listing false refl is))
-    (λ known. notes_nothing files alone (request.Show numbers) caller lists_alone old new (cause_in result) shows.carries (λ zone found number. refl) said)
+    (λ known. notes_nothing files alone (request.Show numbers) caller lists_alone old new (cause_in result) shows.carries
+    (λ zone found number. refl) said)
 
 -- Listings.
 
@@ -273,15 +303,18 @@ module _ (files alone output : Bool) (which : Filter) (caller : Caller) (old new
       ∙ alone_is (zone_check caller.zone) ∙ zone_passes caller.zone readable
 
   -- no text was made
-  pub listing_stopped : (stopped : CommandError) (at : SinkAt) → IsNoOutput stopped → ListsInSession files alone (request.List which) caller old new (Err stopped) →
+  pub listing_stopped : (stopped : CommandError) (at : SinkAt) → IsNoOutput stopped
+      → ListsInSession files alone (request.List which) caller old new (Err stopped) →
       EndsPrinting files alone output (request.List which) caller old new at at stopped.cause
   listing_stopped stopped at of_spool lists = λ clock input errors answers contents said.
       ends_carried (request.List which) caller (telling files alone clock input output errors) (holding old answers contents at said)
       (holding new answers contents at said) lists_alone stopped.cause lists.carries passed (λ known. refl) tt
       (λ known is_alone tells_output.
-      spool_prints stopped.cause (IsSessionText (request.List which) caller (lists_alone lists.carries.allow lists.carries.deny) lists.carries.shown) at of_spool)
+      spool_prints stopped.cause
+      (IsSessionText (request.List which) caller (lists_alone lists.carries.allow lists.carries.deny) lists.carries.shown) at of_spool)
       (λ known is_alone is same. absurd (no_output_of_spool stopped of_spool same))
-      (λ known. spool_notes stopped.cause (IsSessionLine (request.List which) caller (lists_alone lists.carries.allow lists.carries.deny) lists.carries.shown) said of_spool)
+      (λ known. spool_notes stopped.cause
+      (IsSessionLine (request.List which) caller (lists_alone lists.carries.allow lists.carries.deny) lists.carries.shown) said of_spool)
 
   -- the text was put, or not
   listing_by : (cause : Cause) (carries : Carries files alone (request.List which) caller lists_alone old new cause) (was is : SinkAt) →
@@ -296,7 +329,8 @@ module _ (files alone output : Bool) (which : Filter) (caller : Caller) (old new
       (λ known is_alone asks same. listed known is_alone same)
       (λ known. notes_nothing files alone (request.List which) caller lists_alone old new cause carries (λ zone found number. refl) said)
 
-  pub listing_put : (cause : Cause) (text : List ℕ) (was is : SinkAt) → ListsInSession files alone (request.List which) caller old new (Ok text) →
+  pub listing_put : (cause : Cause) (text : List ℕ) (was is : SinkAt)
+      → ListsInSession files alone (request.List which) caller old new (Ok text) →
       PutsWhole output text was is cause → EndsPrinting files alone output (request.List which) caller old new was is cause
   listing_put Done text was is lists puts =
       listing_by Done lists.carries was is (λ known is_alone tells_output. (text, lists.text, puts tells_output))

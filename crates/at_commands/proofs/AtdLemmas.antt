@@ -28,8 +28,10 @@ none_served (Ok (request.Make count)) IsSo is = tt
 none_served (Err fault) IsSo is = tt
 
 -- no turn was made, since there was no memory to read the words
-pub nothing_served : (tells : Telling) (limit interval : ℕ) (once : Bool) (turns : ℕ) (old : DaemonState → ServeState) (out err err_new : SinkAt) (final : Cause)
-    → IsSaid (codes "atd") tells.errors Memory err err_new final → ServesAnew tells limit interval once turns old old out out err err_new final
+pub nothing_served : (tells : Telling) (limit interval : ℕ) (once : Bool) (turns : ℕ) (old : DaemonState → ServeState)
+    (out err err_new : SinkAt) (final : Cause)
+    → IsSaid (codes "atd") tells.errors Memory err err_new final
+    → ServesAnew tells limit interval once turns old old out out err err_new final
 nothing_served tells limit interval once turns old out err err_new final said = record {
   daemon = new_daemon limit interval;
   serving = record {
@@ -53,7 +55,8 @@ nothing_served tells limit interval once turns old out err err_new final said = 
 
 -- words that could not be read
 words_served_by : (asked : Asked) (fault : WordsFault) (IsSo : ℕ → ℕ → Bool → ℕ → Type 0) → Answers asked (Err fault)
-    → ((limit interval : ℕ) (once : Bool) (turns : ℕ) → asked ≡ Ok (request.Daemon limit interval once turns) → fault ≡ words.Memory → IsSo limit interval once turns)
+    → ((limit interval : ℕ) (once : Bool) (turns : ℕ) → asked ≡ Ok (request.Daemon limit interval once turns) → fault ≡ words.Memory
+    → IsSo limit interval once turns)
     → WhereServed asked IsSo
 words_served_by (Ok (request.Submit queue mail file when)) fault IsSo answers so = tt
 words_served_by (Ok (request.List filter)) fault IsSo answers so = tt
@@ -66,6 +69,7 @@ words_served_by (Ok (request.Daemon limit interval once turns)) words.BadQueue I
 words_served_by (Ok (request.Daemon limit interval once turns)) words.Memory IsSo answers so = so limit interval once turns refl refl
 
 pub words_served : (asked : Asked) (fault : WordsFault) (IsSo : ℕ → ℕ → Bool → ℕ → Type 0) → Answers asked (Err fault)
-    → ((limit interval : ℕ) (once : Bool) (turns : ℕ) → asked ≡ Ok (request.Daemon limit interval once turns) → fault ≡ words.Memory → IsSo limit interval once turns)
+    → ((limit interval : ℕ) (once : Bool) (turns : ℕ) → asked ≡ Ok (request.Daemon limit interval once turns) → fault ≡ words.Memory
+    → IsSo limit interval once turns)
     → WhereServed asked IsSo
 words_served asked fault IsSo answers so = words_served_by asked fault IsSo answers so

@@ -78,20 +78,25 @@ pub record KeepsLists (finding : Finding) : Type 0 where
   pub allow_is : (allow deny : Option (List ℕ)) → (finding allow deny).allow ≡ allow
   pub deny_is : (allow deny : Option (List ℕ)) → (finding allow deny).deny ≡ deny
 
-module _ (tells alone : Bool) (asked : ToolRequest) (caller : Caller) (finding : Finding) (keeps : KeepsLists finding) (old new : World) where
+module _ (tells alone : Bool) (asked : ToolRequest) (caller : Caller) (finding : Finding)
+    (keeps : KeepsLists finding) (old new : World) where
   abbrev here : Found
   here = finding (finite.get (reading old) allow_file) (finite.get (reading old) deny_file)
 
   in_directory : tells ≡ true → alone ≡ true →
-      AreInDirectory (reading old) (finding (finite.get (reading old) allow_file) (finite.get (reading old) deny_file)) (shown_by (reading old))
+      AreInDirectory (reading old) (finding (finite.get (reading old) allow_file) (finite.get (reading old) deny_file))
+      (shown_by (reading old))
   in_directory known is_alone = record { allow = keeps.allow_is _ _; deny = keeps.deny_is _ _; table = refl }
 
   -- the spool could not be entered
-  pub not_entered : (cause : Cause) → IsOfEntry cause → (tells ≡ true → alone ≡ true → new ≡ old) → Carries tells alone asked caller finding old new cause
+  pub not_entered : (cause : Cause) → IsOfEntry cause → (tells ≡ true → alone ≡ true → new ≡ old)
+      → Carries tells alone asked caller finding old new cause
   not_entered Busy entry same =
-      untouched tells alone asked caller finding old new Busy refl (late_busy _ (spool_late asked caller here (shown_by (reading old)))) in_directory same same
+      untouched tells alone asked caller finding old new Busy refl
+      (late_busy _ (spool_late asked caller here (shown_by (reading old)))) in_directory same same
   not_entered FileFault entry same =
-      untouched tells alone asked caller finding old new FileFault (refl, refl) (late_file_fault _ (spool_late asked caller here (shown_by (reading old)))) in_directory same
+      untouched tells alone asked caller finding old new FileFault (refl, refl)
+      (late_file_fault _ (spool_late asked caller here (shown_by (reading old)))) in_directory same
       (λ known is_alone. inl (unbegun_same old new (same known is_alone)))
   not_entered Memory entry same =
       untouched tells alone asked caller finding old new Memory tt (any_memory _) in_directory same
@@ -100,10 +105,12 @@ module _ (tells alone : Bool) (asked : ToolRequest) (caller : Caller) (finding :
 
   -- the lists could not be read: a file fault or an out-of-memory error
   stopped_at_lists : (cause : Cause) → Reaches cause of_lists →
-      KeepsOrder (spool_verdict asked caller (finding (finite.get (reading old) allow_file) (finite.get (reading old) deny_file)) (shown_by (reading old))) cause →
+      KeepsOrder (spool_verdict asked caller (finding (finite.get (reading old) allow_file) (finite.get (reading old) deny_file))
+      (shown_by (reading old))) cause →
       (tells ≡ true → new ≡ old) →
       (tells ≡ true → alone ≡ true →
-      SpoolEnds (AreUnrefusedSteps asked caller (finding (finite.get (reading old) allow_file) (finite.get (reading old) deny_file))) old new cause) →
+      SpoolEnds (AreUnrefusedSteps asked caller (finding (finite.get (reading old) allow_file) (finite.get (reading old) deny_file))) old
+      new cause) →
       Carries tells alone asked caller finding old new cause
   stopped_at_lists cause reach order same spool = record {
     allow = finite.get (reading old) allow_file;
@@ -120,8 +127,10 @@ module _ (tells alone : Bool) (asked : ToolRequest) (caller : Caller) (finding :
   }
 
   -- no store was had for a user whom the lists permit: a file fault or an out-of-memory error
-  stopped_at_directory : (allow deny : Option (List ℕ)) → may_use caller.context.user allow deny ≡ true → (tells ≡ true → AreListsIn (reading old) allow deny) →
-      (cause : Cause) → Reaches cause of_spool → KeepsOrder (spool_verdict asked caller (finding allow deny) (shown_by (reading old))) cause →
+  stopped_at_directory : (allow deny : Option (List ℕ)) → may_use caller.context.user allow deny ≡ true
+      → (tells ≡ true → AreListsIn (reading old) allow deny) →
+      (cause : Cause) → Reaches cause of_spool
+      → KeepsOrder (spool_verdict asked caller (finding allow deny) (shown_by (reading old))) cause →
       (tells ≡ true → alone ≡ true → SpoolEnds (AreUnrefusedSteps asked caller (finding allow deny)) old new cause) →
       Carries tells alone asked caller finding old new cause
   stopped_at_directory allow deny permits lists cause reach order spool = record {
@@ -133,7 +142,8 @@ module _ (tells alone : Bool) (asked : ToolRequest) (caller : Caller) (finding :
     reach = reach;
     order = order;
     up_to = subst (λ (of : Option Refusal). ComesUpTo of of_spool)
-        (sym (permitted asked caller (finding allow deny) (shown_by (reading old)) (rw (keeps.allow_is allow deny, keeps.deny_is allow deny) permits)))
+        (sym (permitted asked caller (finding allow deny) (shown_by (reading old))
+        (rw (keeps.allow_is allow deny, keeps.deny_is allow deny) permits)))
         (table_up_to_directory (table_verdict asked caller (shown_by (reading old))) (table_on asked caller (shown_by (reading old))));
     directory = λ known is_alone. record {
       allow = keeps.allow_is allow deny ∙ (lists known).allow_is;
@@ -164,8 +174,10 @@ module _ (tells alone : Bool) (asked : ToolRequest) (caller : Caller) (finding :
     reached = of_access;
     entered = refl;
     reach = refl;
-    order = subst (λ (of : Option Refusal). KeepsOrder of (Refused NotAllowed)) (sym (not_permitted asked caller (finding allow deny) (shown_by (reading old)) (rw (keeps.allow_is allow deny, keeps.deny_is allow deny, same) refused))) (inl refl);
-    up_to = refused_up_to _ NotAllowed (not_permitted asked caller (finding allow deny) (shown_by (reading old)) (rw (keeps.allow_is allow deny, keeps.deny_is allow deny, same) refused));
+    order = subst (λ (of : Option Refusal). KeepsOrder of (Refused NotAllowed)) (sym (not_permitted asked caller (finding allow deny)
+        (shown_by (reading old)) (rw (keeps.allow_is allow deny, keeps.deny_is allow deny, same) refused))) (inl refl);
+    up_to = refused_up_to _ NotAllowed (not_permitted asked caller (finding allow deny) (shown_by (reading old))
+        (rw (keeps.allow_is allow deny, keeps.deny_is allow deny, same) refused));
     directory = λ known is_alone. record {
       allow = keeps.allow_is allow deny ∙ (lists known).allow_is;
       deny = keeps.deny_is allow deny ∙ (lists known).deny_is;
@@ -182,8 +194,10 @@ module _ (tells alone : Bool) (asked : ToolRequest) (caller : Caller) (finding :
     entered = refl;
     reach = refl;
     order = subst (λ (of : Option Refusal). KeepsOrder of (Damaged damage))
-        (sym (permitted asked caller (finding allow deny) (Err damage) (rw (keeps.allow_is allow deny, keeps.deny_is allow deny, same) permits))) tt;
-    up_to = allowed_up_to _ of_spool (permitted asked caller (finding allow deny) (Err damage) (rw (keeps.allow_is allow deny, keeps.deny_is allow deny, same) permits));
+        (sym (permitted asked caller (finding allow deny) (Err damage)
+        (rw (keeps.allow_is allow deny, keeps.deny_is allow deny, same) permits))) tt;
+    up_to = allowed_up_to _ of_spool
+        (permitted asked caller (finding allow deny) (Err damage) (rw (keeps.allow_is allow deny, keeps.deny_is allow deny, same) permits));
     directory = λ known is_alone. record {
       allow = keeps.allow_is allow deny ∙ (lists known).allow_is;
       deny = keeps.deny_is allow deny ∙ (lists known).deny_is;
@@ -195,7 +209,8 @@ module _ (tells alone : Bool) (asked : ToolRequest) (caller : Caller) (finding :
 
 -- What a store keeps decides as the table does.
 
-module _ (tells alone : Bool) (asked : ToolRequest) (caller : Caller) (finding : Finding) (keeps : KeepsLists finding) (old middle new : World)
+module _ (tells alone : Bool) (asked : ToolRequest) (caller : Caller) (finding : Finding) (keeps : KeepsLists finding)
+    (old middle new : World)
     (kept : Kept) (opened : IsStoreOpened tells caller.context.user old middle kept) where
   -- what was found
   abbrev found : Found
@@ -203,18 +218,22 @@ module _ (tells alone : Bool) (asked : ToolRequest) (caller : Caller) (finding :
 
   pub decides : spool_verdict asked caller found (Ok opened.table) ≡ table_verdict asked caller (Ok kept.table)
   decides =
-      permitted asked caller found (Ok opened.table) (rw (keeps.allow_is opened.allow opened.deny, keeps.deny_is opened.allow opened.deny) opened.permits)
+      permitted asked caller found (Ok opened.table)
+      (rw (keeps.allow_is opened.allow opened.deny, keeps.deny_is opened.allow opened.deny) opened.permits)
       ∙ sym (kept_decides asked caller kept.table opened.table opened.keeps)
 
   decides_table : (table : JobTable) → spool_verdict asked caller found (Ok table) ≡ table_verdict asked caller (Ok table)
   decides_table table =
-      permitted asked caller found (Ok table) (rw (keeps.allow_is opened.allow opened.deny, keeps.deny_is opened.allow opened.deny) opened.permits)
+      permitted asked caller found (Ok table)
+      (rw (keeps.allow_is opened.allow opened.deny, keeps.deny_is opened.allow opened.deny) opened.permits)
 
-  pub work_to_session : (table : JobTable) (steps : List Step) → AreWorkSteps asked caller found table steps → AreUnrefusedSteps asked caller found table steps
+  pub work_to_session : (table : JobTable) (steps : List Step) → AreWorkSteps asked caller found table steps
+      → AreUnrefusedSteps asked caller found table steps
   work_to_session table steps are = record { none = decides_table table ∙ are.none; steps_are = are.steps_are }
 
   -- the work after the store that was opened
-  abbrev worked_at : (cause : Cause) (reached : Check) → is_earlier_check reached of_lock ≡ false → is_earlier_check reached of_spool ≡ false → Reaches cause reached →
+  abbrev worked_at : (cause : Cause) (reached : Check) → is_earlier_check reached of_lock ≡ false
+      → is_earlier_check reached of_spool ≡ false → Reaches cause reached →
       KeepsOrder (table_verdict asked caller (Ok kept.table)) cause → ComesUpTo (table_verdict asked caller (Ok kept.table)) reached →
       (tells ≡ true → CommandWorks (AreWorkSteps asked caller found) opened.table middle new cause) →
       Carries tells alone asked caller finding old new cause
@@ -233,12 +252,14 @@ module _ (tells alone : Bool) (asked : ToolRequest) (caller : Caller) (finding :
       table = sym (opened.recovered known).shown;
     };
     apart = λ known is_alone early. absurd (no_true (sym later ∙ early));
-    spool = λ known is_alone. ends_map (AreWorkSteps asked caller found) (AreUnrefusedSteps asked caller found) work_to_session old new cause
+    spool =
+        λ known is_alone. ends_map (AreWorkSteps asked caller found) (AreUnrefusedSteps asked caller found) work_to_session old new cause
         (works_end (AreWorkSteps asked caller found) old middle new opened.table kept (opened.recovered known) cause (works known));
   }
 
   -- a refusal keeps the order where it is that of the table
-  on_table : (verdict : Option Refusal) (refusal : Refusal) → OnTable verdict → verdict ≡ Some refusal → is_earlier_check of_spool (check_of refusal) ≡ true
+  on_table : (verdict : Option Refusal) (refusal : Refusal) → OnTable verdict → verdict ≡ Some refusal
+      → is_earlier_check of_spool (check_of refusal) ≡ true
   on_table None refusal on is = cc
   on_table (Some other) refusal on is =
       let same : other ≡ refusal = same_Some other refusal is in subst (λ of. is_earlier_check of_spool (check_of of) ≡ true) same on.1
@@ -251,7 +272,8 @@ module _ (tells alone : Bool) (asked : ToolRequest) (caller : Caller) (finding :
   reached_by None = of_steps
   reached_by (Some refusal) = check_of refusal
 
-  pub far_by : (verdict : Option Refusal) → OnTable verdict → (is_earlier_check (reached_by verdict) of_lock ≡ false) × (is_earlier_check (reached_by verdict) of_spool ≡ false)
+  pub far_by : (verdict : Option Refusal) → OnTable verdict → (is_earlier_check (reached_by verdict) of_lock ≡ false)
+      × (is_earlier_check (reached_by verdict) of_spool ≡ false)
   far_by None on = (refl, refl)
   far_by (Some refusal) on = later (place_of_check (check_of refusal)) on.1
 
@@ -265,28 +287,33 @@ module _ (tells alone : Bool) (asked : ToolRequest) (caller : Caller) (finding :
   work_refused refusal is same =
       let late : is_earlier_check of_spool (check_of refusal) ≡ true =
       on_table (table_verdict asked caller (Ok kept.table)) refusal (table_on asked caller (Ok kept.table)) is in
-      let far : (nat_lt (place_of_check (check_of refusal)) 11 ≡ false) × (nat_lt (place_of_check (check_of refusal)) 14 ≡ false) = later (place_of_check (check_of refusal)) late in
+      let far : (nat_lt (place_of_check (check_of refusal)) 11 ≡ false) × (nat_lt (place_of_check (check_of refusal)) 14 ≡ false) =
+      later (place_of_check (check_of refusal)) late in
       worked_at (Refused refusal) (check_of refusal) far.0 far.1 refl
       (subst (λ (of : Option Refusal). KeepsOrder of (Refused refusal)) (sym is) (inl refl))
       (refused_up_to (table_verdict asked caller (Ok kept.table)) refusal is) (λ known. (late, same known))
 
   -- the table doesn't refuse: the work was done, or a fault of a file or an out-of-memory error came
-  abbrev pub work_done : table_verdict asked caller (Ok kept.table) ≡ None → (tells ≡ true → CommandWorks (AreWorkSteps asked caller found) opened.table middle new Done) →
+  abbrev pub work_done : table_verdict asked caller (Ok kept.table) ≡ None
+      → (tells ≡ true → CommandWorks (AreWorkSteps asked caller found) opened.table middle new Done) →
       Carries tells alone asked caller finding old new Done
   work_done is works =
-      worked_at Done of_output refl refl refl (subst (λ (of : Option Refusal). KeepsOrder of Done) (sym is) tt) (allowed_up_to _ of_output is) works
+      worked_at Done of_output refl refl refl (subst (λ (of : Option Refusal). KeepsOrder of Done) (sym is) tt)
+      (allowed_up_to _ of_output is) works
 
   abbrev pub work_unsaid : table_verdict asked caller (Ok kept.table) ≡ None →
       (tells ≡ true → CommandWorks (AreWorkSteps asked caller found) opened.table middle new OutputFault) →
       Carries tells alone asked caller finding old new OutputFault
   work_unsaid is works =
-      worked_at OutputFault of_output refl refl refl (subst (λ (of : Option Refusal). KeepsOrder of OutputFault) (sym is) tt) (allowed_up_to _ of_output is) works
+      worked_at OutputFault of_output refl refl refl (subst (λ (of : Option Refusal). KeepsOrder of OutputFault) (sym is) tt)
+      (allowed_up_to _ of_output is) works
 
   abbrev pub work_fails : table_verdict asked caller (Ok kept.table) ≡ None →
       (tells ≡ true → CommandWorks (AreWorkSteps asked caller found) opened.table middle new FileFault) →
       Carries tells alone asked caller finding old new FileFault
   work_fails is works =
-      worked_at FileFault of_steps refl refl (refl, refl) (subst (λ (of : Option Refusal). KeepsOrder of FileFault) (sym is) tt) (allowed_up_to _ of_steps is) works
+      worked_at FileFault of_steps refl refl (refl, refl) (subst (λ (of : Option Refusal). KeepsOrder of FileFault) (sym is) tt)
+      (allowed_up_to _ of_steps is) works
 
   abbrev pub work_lacks_memory : (tells ≡ true → CommandWorks (AreWorkSteps asked caller found) opened.table middle new Memory) →
       Carries tells alone asked caller finding old new Memory
@@ -297,7 +324,8 @@ module _ (tells alone : Bool) (asked : ToolRequest) (caller : Caller) (finding :
       (any_memory (table_verdict asked caller (Ok kept.table))) (up_to_by (table_verdict asked caller (Ok kept.table))) works
 
 -- A session is as it was between entering and leaving, where nobody else changes the directory.
-abbrev pub carries_within : (tells alone : Bool) (asked : ToolRequest) (caller : Caller) (finding : Finding) (before entered left after : World) (cause : Cause) →
+abbrev pub carries_within : (tells alone : Bool) (asked : ToolRequest) (caller : Caller) (finding : Finding)
+    (before entered left after : World) (cause : Cause) →
     (tells ≡ true → alone ≡ true → entered ≡ before) → (tells ≡ true → alone ≡ true → after ≡ left) →
     Carries tells true asked caller finding entered left cause → Carries tells alone asked caller finding before after cause
 carries_within tells alone asked caller finding before entered left after cause enters leaves carries = record {
@@ -310,11 +338,14 @@ carries_within tells alone asked caller finding before entered left after cause 
   order = carries.order;
   up_to = carries.up_to;
   directory = λ known is_alone.
-      subst (λ (of : World). AreInDirectory (reading of) (finding carries.allow carries.deny) carries.shown) (enters known is_alone) (carries.directory known refl);
+      subst (λ (of : World). AreInDirectory (reading of) (finding carries.allow carries.deny) carries.shown) (enters known is_alone)
+      (carries.directory known refl);
   apart = λ known is_alone early. leaves known is_alone ∙ carries.apart known refl early ∙ enters known is_alone;
   spool = λ known is_alone.
-      subst (λ (of : World). SpoolEnds (AreUnrefusedSteps asked caller (finding carries.allow carries.deny)) of after cause) (enters known is_alone)
-      (subst (λ (of : World). SpoolEnds (AreUnrefusedSteps asked caller (finding carries.allow carries.deny)) entered of cause) (sym (leaves known is_alone))
+      subst (λ (of : World). SpoolEnds (AreUnrefusedSteps asked caller (finding carries.allow carries.deny)) of after cause)
+      (enters known is_alone)
+      (subst (λ (of : World). SpoolEnds (AreUnrefusedSteps asked caller (finding carries.allow carries.deny)) entered of cause)
+      (sym (leaves known is_alone))
       (carries.spool known refl));
 }
 
@@ -357,5 +388,6 @@ module _ (tells alone : Bool) (asked : ToolRequest) (caller : Caller) (finding :
     up_to = allowed_up_to _ of_output (done_allowed _ carries.order);
     directory = carries.directory;
     apart = λ known is_alone early. absurd (no_true early);
-    spool = λ known is_alone. attempt_of (AreUnrefusedSteps asked caller (finding carries.allow carries.deny)) old new Done (carries.spool known is_alone);
+    spool = λ known is_alone.
+        attempt_of (AreUnrefusedSteps asked caller (finding carries.allow carries.deny)) old new Done (carries.spool known is_alone);
   }

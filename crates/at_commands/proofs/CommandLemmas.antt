@@ -49,14 +49,16 @@ words_end asked caller tells at words.Memory is =
     ends_at_words asked caller tells at Memory tt tt (λ found shown. any_memory (verdict_of asked caller found shown))
 
 -- a day is not made here
-pub make_ends : (count : ℕ) (caller : Caller) (tells : Telling) (at : Holding) → CommandEnds NotesBy (Ok (request.Make count)) caller tells at at (Refused Usage)
+pub make_ends : (count : ℕ) (caller : Caller) (tells : Telling) (at : Holding)
+    → CommandEnds NotesBy (Ok (request.Make count)) caller tells at at (Refused Usage)
 make_ends count caller tells at = ends_at_words (Ok (request.Make count)) caller tells at (Refused Usage) tt refl (λ found shown. inl refl)
 
 -- What is requested, by another name.
 
 pub ends_asked : (one other : Asked) (caller : Caller) (tells : Telling) (before after : Holding) (cause : Cause) → one ≡ other →
     CommandEnds NotesBy one caller tells before after cause → CommandEnds NotesBy other caller tells before after cause
-ends_asked one other caller tells before after cause same ends = subst (λ (of : Asked). CommandEnds NotesBy of caller tells before after cause) same ends
+ends_asked one other caller tells before after cause same ends =
+    subst (λ (of : Asked). CommandEnds NotesBy of caller tells before after cause) same ends
 
 -- The line of the cause.
 
@@ -95,14 +97,16 @@ pub memory_output_fault : Memory ≡ OutputFault → ⊥
 memory_output_fault is = cc
 
 -- no command ends while its jobs still run
-pub ends_not_running : (Notes : Cause → (List ℕ → Type 0) → SinkAt → SinkAt → Type 0) (asked : Asked) (caller : Caller) (tells : Telling) (before after : Holding)
+pub ends_not_running : (Notes : Cause → (List ℕ → Type 0) → SinkAt → SinkAt → Type 0) (asked : Asked) (caller : Caller) (tells : Telling)
+    (before after : Holding)
     (cause : Cause) → CommandEnds Notes asked caller tells before after cause → cause ≢ StillRunning
 ends_not_running Notes asked caller tells before after cause ends is = subst (λ (of : Cause). Reaches of ends.reached) is ends.reach
 
 -- What is left of a session that was ended, and where none was begun.
 
 pub outside_left : (old new : Session) → IsLeft old new → EndsOutside old new
-outside_left old new left = record { outside = left.outside; kept = ([], left.children ∙ sym (append-nil old.children)); counts = left.counts }
+outside_left old new left =
+    record { outside = left.outside; kept = ([], left.children ∙ sym (append-nil old.children)); counts = left.counts }
 
 pub left_same : (session : Session) → IsOutside session → IsLeft session session
 left_same session outside = record {
@@ -118,7 +122,8 @@ words_final fault final either = elim either [
   | inr lacks ↦ subst (λ (of : Cause). IsOfWords of) (sym lacks) tt
 ]
 
-pub words_risen : (fault : WordsFault) (final : Cause) → (final ≡ words_cause fault) ⊎ (final ≡ Memory) → (asked : Asked) (old new : OutsideAt) →
+pub words_risen : (fault : WordsFault) (final : Cause) → (final ≡ words_cause fault) ⊎ (final ≡ Memory)
+    → (asked : Asked) (old new : OutsideAt) →
     HasRisenAsked asked old new final
 words_risen fault final either asked old new = record {
   file_fault = λ same. absurd (subst (λ (of : Cause). IsOfWords of) same (words_final fault final either));

@@ -57,10 +57,12 @@ alone : (verdict : Option Refusal) → first_refusal (verdict ∷ []) ≡ verdic
 alone None = refl
 alone (Some refusal) = refl
 
-verdict_late : (asked : ToolRequest) (caller : Caller) (found : Found) (shown : Result JobTable Damage) → early_verdict asked caller found ≡ None →
+verdict_late : (asked : ToolRequest) (caller : Caller) (found : Found) (shown : Result JobTable Damage)
+    → early_verdict asked caller found ≡ None →
     verdict_of (Ok asked) caller found shown ≡ spool_verdict asked caller found shown
 verdict_late asked caller found shown none =
-    ap (λ (early : Option Refusal). first_refusal (early ∷ spool_verdict asked caller found shown ∷ [])) none ∙ alone (spool_verdict asked caller found shown)
+    ap (λ (early : Option Refusal). first_refusal (early ∷ spool_verdict asked caller found shown ∷ [])) none
+    ∙ alone (spool_verdict asked caller found shown)
 
 -- a session whose early checks passed
 module _ (asked : ToolRequest) (caller : Caller) (tells : Telling) (before after : Holding) (finding : Finding) (cause : Cause)
@@ -83,7 +85,8 @@ module _ (asked : ToolRequest) (caller : Caller) (tells : Telling) (before after
     reached = carries.reached;
     reach = carries.reach;
     order = subst (λ (of : Option Refusal). KeepsOrder of cause) (sym (verdict_late asked caller found carries.shown none)) carries.order;
-    up_to = subst (λ (of : Option Refusal). ComesUpTo of carries.reached) (sym (verdict_late asked caller found carries.shown none)) carries.up_to;
+    up_to = subst (λ (of : Option Refusal). ComesUpTo of carries.reached)
+        (sym (verdict_late asked caller found carries.shown none)) carries.up_to;
     clock = clock;
     finds = finds;
     directory = carries.directory;
@@ -91,14 +94,16 @@ module _ (asked : ToolRequest) (caller : Caller) (tells : Telling) (before after
     spool = λ known is_alone. ends_map (AreUnrefusedSteps asked caller found) (AreAskedSteps (Ok asked) caller found)
         (λ table steps are. record { none = verdict_late asked caller found (Ok table) none ∙ are.none; steps_are = are.steps_are })
         before.spool after.spool cause (carries.spool known is_alone);
-    prints = λ known is_alone tells_output. prints_map (IsSessionText asked caller found carries.shown) (IsAskedText (Ok asked) caller found carries.shown)
+    prints = λ known is_alone tells_output.
+        prints_map (IsSessionText asked caller found carries.shown) (IsAskedText (Ok asked) caller found carries.shown)
         (λ text is. (is.0, is.1, verdict_late asked caller found carries.shown none ∙ is.2, is.3)) before.output after.output cause
         (prints known is_alone tells_output);
     listed = λ known is_alone is same.
         let has = listed known is_alone is same in
         (has.0, (has.1.0, has.1.1, verdict_late asked caller found carries.shown none ∙ has.1.2, has.1.3), has.2);
     notes = λ tells_errors. notes_map (IsSessionLine asked caller found carries.shown) (IsAskedLine (Ok asked) caller found carries.shown)
-        (λ line is. (verdict_late asked caller found carries.shown none ∙ is.0, is.1)) before.errors after.errors cause (notes tells_errors);
+        (λ line is. (verdict_late asked caller found carries.shown none ∙ is.0, is.1)) before.errors after.errors
+        cause (notes tells_errors);
   }
 
 -- the outside was not touched but for the clock and the commands
@@ -109,11 +114,13 @@ IsEarly Memory = Unit {0}
 IsEarly _ = ⊥
 
 -- a cause that keeps the order of the early checks keeps that of all
-keeps_early : (early : Option Refusal) (asked : ToolRequest) (caller : Caller) (found : Found) (shown : Result JobTable Damage) (cause : Cause) →
+keeps_early : (early : Option Refusal) (asked : ToolRequest) (caller : Caller) (found : Found)
+    (shown : Result JobTable Damage) (cause : Cause) →
     IsEarly cause → KeepsOrder early cause → KeepsOrder (first_refusal (early ∷ spool_verdict asked caller found shown ∷ [])) cause
 keeps_early (Some refusal) asked caller found shown cause is order = order
 keeps_early None asked caller found shown cause is order =
-    subst (λ (of : Option Refusal). KeepsOrder of cause) (sym (alone (spool_verdict asked caller found shown))) (by_cause cause is order) where
+    subst (λ (of : Option Refusal). KeepsOrder of cause) (sym (alone (spool_verdict asked caller found shown)))
+    (by_cause cause is order) where
       by_cause : (of : Cause) → IsEarly of → IsNoRefusal of → KeepsOrder (spool_verdict asked caller found shown) of
       by_cause InputFault early none = late_input (spool_verdict asked caller found shown) (spool_late asked caller found shown)
       by_cause Memory early none = any_memory (spool_verdict asked caller found shown)
@@ -121,8 +128,10 @@ keeps_early None asked caller found shown cause is order =
       by_cause _ early none = absurd early
 
 -- and so how far the command came
-up_to_early : (early : Option Refusal) (asked : ToolRequest) (caller : Caller) (found : Found) (shown : Result JobTable Damage) (reached : Check) →
-    is_earlier_check reached of_lock ≡ true → ComesUpTo early reached → ComesUpTo (first_refusal (early ∷ spool_verdict asked caller found shown ∷ [])) reached
+up_to_early : (early : Option Refusal) (asked : ToolRequest) (caller : Caller) (found : Found)
+    (shown : Result JobTable Damage) (reached : Check) →
+    is_earlier_check reached of_lock ≡ true → ComesUpTo early reached
+    → ComesUpTo (first_refusal (early ∷ spool_verdict asked caller found shown ∷ [])) reached
 up_to_early (Some refusal) asked caller found shown reached ahead up_to = up_to
 up_to_early None asked caller found shown reached ahead up_to =
     subst (λ (of : Option Refusal). ComesUpTo of reached) (sym (alone (spool_verdict asked caller found shown)))
@@ -136,34 +145,42 @@ before_directory : (place : ℕ) → nat_lt place 11 ≡ true → nat_lt 14 plac
 before_directory place is = grind (arith, nat_tests)
 
 -- a command that stopped before the spool was entered leaves it as it was
-pub untouched : (AreSteps : JobTable → List Step → Type 0) (old new : World) (cause : Cause) (reached : Check) → IsEarly cause → Reaches cause reached →
+pub untouched : (AreSteps : JobTable → List Step → Type 0) (old new : World) (cause : Cause) (reached : Check) → IsEarly cause
+    → Reaches cause reached →
     is_earlier_check reached of_lock ≡ true → new ≡ old → SpoolEnds AreSteps old new cause
 untouched AreSteps old new (Refused refusal) reached early reach before same =
     subst (λ (beyond : Bool). MatchBool beyond (Achieves AreNoSteps old new) (new ≡ old))
-    (sym (before_directory (place_of_check (check_of refusal)) (subst (λ (of : Check). is_earlier_check of of_lock ≡ true) reach before))) same
+    (sym (before_directory (place_of_check (check_of refusal)) (subst (λ (of : Check). is_earlier_check of of_lock ≡ true) reach before)))
+    same
 untouched AreSteps old new InputFault reached early reach before same = same
 untouched AreSteps old new Memory reached early reach before same = inl (unbegun_same old new same)
 untouched AreSteps old new _ reached early reach before same = absurd early
 
 -- nothing was put where nothing changed
-pub silent_prints : (cause : Cause) (IsText : List ℕ → Type 0) (old new : SinkAt) → IsEarly cause → IsSilent old new → PrintsBy cause IsText old new
+pub silent_prints : (cause : Cause) (IsText : List ℕ → Type 0) (old new : SinkAt) → IsEarly cause → IsSilent old new
+    → PrintsBy cause IsText old new
 silent_prints (Refused refusal) IsText old new early unchecked = unchecked
 silent_prints InputFault IsText old new early unchecked = unchecked
 silent_prints Memory IsText old new early unchecked = inl unchecked
 silent_prints _ IsText old new early unchecked = absurd early
 
-pub silent_notes : (cause : Cause) (IsLine : List ℕ → Type 0) (old new : SinkAt) → IsEarly cause → IsSilent old new → NotesBy cause IsLine old new
+pub silent_notes : (cause : Cause) (IsLine : List ℕ → Type 0) (old new : SinkAt) → IsEarly cause → IsSilent old new
+    → NotesBy cause IsLine old new
 silent_notes (Refused refusal) IsLine old new early unchecked = unchecked
 silent_notes InputFault IsLine old new early unchecked = unchecked
 silent_notes Memory IsLine old new early unchecked = inl unchecked
 silent_notes _ IsLine old new early unchecked = absurd early
 
 -- a command that stopped before the spool was entered, its words read
-pub ends_early : (asked : ToolRequest) (caller : Caller) (tells : Telling) (before after : Holding) (finding : Finding) (keeps : KeepsLists finding)
+pub ends_early : (asked : ToolRequest) (caller : Caller) (tells : Telling) (before after : Holding) (finding : Finding)
+    (keeps : KeepsLists finding)
     (cause : Cause) (reached : Check) →
-    ((allow deny : Option (List ℕ)) → KeepsOrder (early_verdict asked caller (finding allow deny)) cause) → IsEarly cause → Reaches cause reached →
-    is_earlier_check reached of_lock ≡ true → ((allow deny : Option (List ℕ)) → ComesUpTo (early_verdict asked caller (finding allow deny)) reached) →
-    ((allow deny : Option (List ℕ)) → tells.clock ≡ true → after.answers ≡ answers_read (Ok asked) reached (finding allow deny).now before.answers) →
+    ((allow deny : Option (List ℕ)) → KeepsOrder (early_verdict asked caller (finding allow deny)) cause) → IsEarly cause
+    → Reaches cause reached →
+    is_earlier_check reached of_lock ≡ true
+    → ((allow deny : Option (List ℕ)) → ComesUpTo (early_verdict asked caller (finding allow deny)) reached) →
+    ((allow deny : Option (List ℕ)) → tells.clock ≡ true
+    → after.answers ≡ answers_read (Ok asked) reached (finding allow deny).now before.answers) →
     ((allow deny : Option (List ℕ)) → Finds tells.input (Ok asked) caller.zone before.contents reached (finding allow deny)) →
     after.spool ≡ before.spool → IsSilent before.output after.output → IsSilent before.errors after.errors →
     CommandEnds NotesBy (Ok asked) caller tells before after cause
@@ -176,16 +193,21 @@ ends_early asked caller tells before after finding keeps cause reached order ear
       shown = shown;
       reached = reached;
       reach = reach;
-      order = keeps_early (early_verdict asked caller (finding allow deny)) asked caller (finding allow deny) shown cause early (order allow deny);
-      up_to = up_to_early (early_verdict asked caller (finding allow deny)) asked caller (finding allow deny) shown reached ahead (up_to allow deny);
+      order = keeps_early (early_verdict asked caller (finding allow deny)) asked caller (finding allow deny) shown cause
+          early (order allow deny);
+      up_to = up_to_early (early_verdict asked caller (finding allow deny)) asked caller (finding allow deny) shown reached
+          ahead (up_to allow deny);
       clock = clock allow deny;
       finds = finds allow deny;
       directory = λ known is_alone. record { allow = keeps.allow_is allow deny; deny = keeps.deny_is allow deny; table = refl };
       apart = λ known is_alone is. same;
-      spool = λ known is_alone. untouched (AreAskedSteps (Ok asked) caller (finding allow deny)) before.spool after.spool cause reached early reach ahead same;
-      prints = λ known is_alone tells_output. silent_prints cause (IsAskedText (Ok asked) caller (finding allow deny) shown) before.output after.output early unchecked;
+      spool = λ known is_alone.
+          untouched (AreAskedSteps (Ok asked) caller (finding allow deny)) before.spool after.spool cause reached early reach ahead same;
+      prints = λ known is_alone tells_output.
+          silent_prints cause (IsAskedText (Ok asked) caller (finding allow deny) shown) before.output after.output early unchecked;
       listed = λ known is_alone is same. absurd (subst (λ (of : Cause). IsEarly of) same early);
-      notes = λ tells_errors. silent_notes cause (IsAskedLine (Ok asked) caller (finding allow deny) shown) before.errors after.errors early quiet;
+      notes = λ tells_errors.
+          silent_notes cause (IsAskedLine (Ok asked) caller (finding allow deny) shown) before.errors after.errors early quiet;
     }
 
 -- The line of a cause.
@@ -197,7 +219,11 @@ none_in_part line old new quiet = record { count = 0; content = quiet.content �
 -- a line that was put, or cut, was put in part
 in_part : (line : List ℕ) (old new : SinkAt) → IsPutOrCut line old new → IsPutInPart line old new
 in_part line old new put = elim put [
-  | inl whole ↦ record { count = length line; content = whole.content ∙ ap (λ rest. old.content ++ rest) (sym (take-length line)); later = whole.later }
+  | inl whole ↦ record {
+    count = length line;
+    content = whole.content ∙ ap (λ rest. old.content ++ rest) (sym (take-length line));
+    later = whole.later;
+  }
   | inr cut ↦ record { count = cut.count; content = cut.content; later = cut.later }
 ]
 
@@ -222,12 +248,18 @@ module _ (tool : List ℕ) (IsLine : List ℕ → Type 0) (old between new : Sin
   says_line : (cause : Cause) → NotesBy cause IsLine old between → SaysLine tool cause between new → SaysBy tool cause IsLine old new
   says_line cause notes says = record { between = between; notice = notes; line = line_said cause says }
 
-  says_none : (cause : Cause) → IsFailure cause → NotesBy cause IsLine old between → IsSilent between new → SaysBy tool Memory IsLine old new
+  says_none : (cause : Cause) → IsFailure cause → NotesBy cause IsLine old between → IsSilent between new
+      → SaysBy tool Memory IsLine old new
   says_none cause undone notes quiet =
-      record { between = between; notice = notes_no_memory cause undone notes; line = none_in_part (cause_line_of tool Memory) between new quiet }
+      record {
+        between = between;
+        notice = notes_no_memory cause undone notes;
+        line = none_in_part (cause_line_of tool Memory) between new quiet;
+      }
 
 -- what is printed before a line that runs out of memory
-prints_no_memory : (cause : Cause) (IsText : List ℕ → Type 0) (old new : SinkAt) → IsFailure cause → PrintsBy cause IsText old new → PrintsBy Memory IsText old new
+prints_no_memory : (cause : Cause) (IsText : List ℕ → Type 0) (old new : SinkAt) → IsFailure cause → PrintsBy cause IsText old new
+    → PrintsBy Memory IsText old new
 prints_no_memory OutputFault IsText old new undone prints = prints
 prints_no_memory Memory IsText old new undone prints = prints
 prints_no_memory FileFault IsText old new undone prints = prints
@@ -245,7 +277,8 @@ with_errors at errors = record { spool = at.spool; answers = at.answers; content
 -- A command whose cause was said, or ran out of memory.
 module _ (tool : List ℕ) (asked : Asked) (caller : Caller) (tells : Telling) (before after : Holding) (between : SinkAt) (cause : Cause)
     (ends : CommandEnds NotesBy asked caller tells before (with_errors after between) cause) where
-  ends_as_is : (tells.errors ≡ true → SaysLine tool cause between after.errors) → CommandEnds (SaysBy tool) asked caller tells before after cause
+  ends_as_is : (tells.errors ≡ true → SaysLine tool cause between after.errors)
+      → CommandEnds (SaysBy tool) asked caller tells before after cause
   ends_as_is says = record {
     found = ends.found;
     shown = ends.shown;
@@ -260,10 +293,12 @@ module _ (tool : List ℕ) (asked : Asked) (caller : Caller) (tells : Telling) (
     spool = ends.spool;
     prints = ends.prints;
     listed = ends.listed;
-    notes = λ known. says_line tool (IsAskedLine asked caller ends.found ends.shown) before.errors between after.errors cause (ends.notes known) (says known);
+    notes = λ known. says_line tool (IsAskedLine asked caller ends.found ends.shown) before.errors between after.errors cause
+        (ends.notes known) (says known);
   }
 
-  ends_no_memory : IsFailure cause → (tells.errors ≡ true → IsSilent between after.errors) → CommandEnds (SaysBy tool) asked caller tells before after Memory
+  ends_no_memory : IsFailure cause → (tells.errors ≡ true → IsSilent between after.errors)
+      → CommandEnds (SaysBy tool) asked caller tells before after Memory
   ends_no_memory undone quiet = record {
     found = ends.found;
     shown = ends.shown;
@@ -277,14 +312,18 @@ module _ (tool : List ℕ) (asked : Asked) (caller : Caller) (tells : Telling) (
     apart = ends.apart;
     spool = λ known is_alone. attempt_of (AreAskedSteps asked caller ends.found) before.spool after.spool cause (ends.spool known is_alone);
     prints = λ known is_alone tells_output.
-        prints_no_memory cause (IsAskedText asked caller ends.found ends.shown) before.output after.output undone (ends.prints known is_alone tells_output);
+        prints_no_memory cause (IsAskedText asked caller ends.found ends.shown) before.output after.output undone
+        (ends.prints known is_alone tells_output);
     listed = λ known is_alone is same. (cc);
-    notes = λ known. says_none tool (IsAskedLine asked caller ends.found ends.shown) before.errors between after.errors cause undone (ends.notes known)
+    notes = λ known.
+        says_none tool (IsAskedLine asked caller ends.found ends.shown) before.errors between after.errors cause undone (ends.notes known)
         (quiet known);
   }
 
-  pub ends_said : (final : Cause) → IsSaid tool tells.errors cause between after.errors final → CommandEnds (SaysBy tool) asked caller tells before after final
+  pub ends_said : (final : Cause) → IsSaid tool tells.errors cause between after.errors final
+      → CommandEnds (SaysBy tool) asked caller tells before after final
   ends_said final said = elim said [
     | inl as_is ↦ subst (λ (of : Cause). CommandEnds (SaysBy tool) asked caller tells before after of) (sym as_is.0) (ends_as_is as_is.1)
-    | inr lacks ↦ subst (λ (of : Cause). CommandEnds (SaysBy tool) asked caller tells before after of) (sym lacks.1) (ends_no_memory lacks.0 lacks.2)
+    | inr lacks ↦
+        subst (λ (of : Cause). CommandEnds (SaysBy tool) asked caller tells before after of) (sym lacks.1) (ends_no_memory lacks.0 lacks.2)
   ]

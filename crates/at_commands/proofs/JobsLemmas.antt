@@ -21,21 +21,24 @@ use Rattle.command_rules.specs.Requested.{removes}
 use Rattle.command_rules.specs.Verdict.{jobs_check, live_row, row_check}
 use Rattle.at_commands.proofs.LegalLemmas.{removes_legal}
 use Rattle.step_runs.proofs.ApartLemmas.{Apart}
-use Rattle.at_commands.proofs.UserLemmas.{first_passed}
+use Rattle.command_rules.proofs.UserLemmas.{first_passed}
 
 -- no check of a number refuses
 pub each_passes : (user : List ℕ) (removing : Bool) (table : JobTable) (numbers : List ℕ) → jobs_check user removing table numbers ≡ None →
     (number : ℕ) → Has numbers number → row_check user removing number (live_row table number) ≡ None
 each_passes user removing table [] none number has = absurd has
 each_passes user removing table (first ∷ later) none number (inl same) =
-    let parts = first_passed (row_check user removing first (live_row table first)) (map (λ of. row_check user removing of (live_row table of)) later) none in
+    let parts = first_passed (row_check user removing first (live_row table first))
+    (map (λ of. row_check user removing of (live_row table of)) later) none in
     subst (λ of. row_check user removing of (live_row table of) ≡ None) same parts.0
 each_passes user removing table (first ∷ later) none number (inr has) =
-    let parts = first_passed (row_check user removing first (live_row table first)) (map (λ of. row_check user removing of (live_row table of)) later) none in
+    let parts = first_passed (row_check user removing first (live_row table first))
+    (map (λ of. row_check user removing of (live_row table of)) later) none in
     each_passes user removing table later parts.1 number has
 
 -- a row that may be removed does not run
-not_running : (seen : Bool) (state : JobState) (one other : Refusal) → cond seen (cond (true && is_running state) (Some one) None) (Some other) ≡ None → state ≡ Pending
+not_running : (seen : Bool) (state : JobState) (one other : Refusal)
+    → cond seen (cond (true && is_running state) (Some one) None) (Some other) ≡ None → state ≡ Pending
 not_running true Pending one other none = refl
 not_running true (Running second) one other none = cc
 not_running false state one other none = cc
@@ -88,14 +91,16 @@ distinct_apart (number ∷ later) is =
     (any_none later number (not_true (list_any (λ other. other == number) later) parts.0), distinct_apart later parts.1)
 
 -- the removal of numbers that no check refuses is legal
-pub removal_allowed : (user : List ℕ) (table : JobTable) (numbers : List ℕ) → IsTrue (are_distinct numbers) → jobs_check user true table numbers ≡ None →
+pub removal_allowed : (user : List ℕ) (table : JobTable) (numbers : List ℕ) → IsTrue (are_distinct numbers)
+    → jobs_check user true table numbers ≡ None →
     AreLegal table (removes numbers)
 removal_allowed user table numbers distinct none =
     removes_legal table numbers (distinct_apart numbers distinct)
     (λ number has. pending_by user table number (entry_at table number) refl (each_passes user true table numbers none number has))
 
 -- the jobs of such numbers live
-pub jobs_live : (user : List ℕ) (table : JobTable) (numbers : List ℕ) → jobs_check user false table numbers ≡ None → (number : ℕ) → Has numbers number → IsLive table number
+pub jobs_live : (user : List ℕ) (table : JobTable) (numbers : List ℕ) → jobs_check user false table numbers ≡ None → (number : ℕ)
+    → Has numbers number → IsLive table number
 jobs_live user table numbers none number has =
     live_by user table number (entry_at table number) refl (each_passes user false table numbers none number has)
 
@@ -104,5 +109,6 @@ has_all P [] each = All-nil P
 has_all P (number ∷ later) each =
     All-cons P number later (each number (inl refl)) (has_all P later (λ other has. each other (inr has)))
 
-pub jobs_live_all : (user : List ℕ) (table : JobTable) (numbers : List ℕ) → jobs_check user false table numbers ≡ None → All (IsLive table) numbers
+pub jobs_live_all : (user : List ℕ) (table : JobTable) (numbers : List ℕ) → jobs_check user false table numbers ≡ None
+    → All (IsLive table) numbers
 jobs_live_all user table numbers none = has_all (IsLive table) numbers (jobs_live user table numbers none)

@@ -23,21 +23,25 @@ unfolding without_scripts
 without_scripts_last table = refl
 
 -- the row of an entry has no script
-row_without_scripts : (number : ℕ) (entry : Option JobEntry) → option_and_then (row_under number) (option_map entry_without_script entry) ≡ option_and_then (row_under number) entry
+row_without_scripts : (number : ℕ) (entry : Option JobEntry)
+    → option_and_then (row_under number) (option_map entry_without_script entry) ≡ option_and_then (row_under number) entry
 row_without_scripts number None = refl
 row_without_scripts number (Some (Live job state)) = refl
 row_without_scripts number (Some (Done fate)) = refl
 
 pub row_at-without_scripts : (table : JobTable) (number : ℕ) → live_row (without_scripts table) number ≡ live_row table number
-row_at-without_scripts table number = ap (option_and_then (row_under number)) (entries_are_without_scripts table number) ∙ row_without_scripts number (entry_at table number)
+row_at-without_scripts table number = ap (option_and_then (row_under number)) (entries_are_without_scripts table number)
+    ∙ row_without_scripts number (entry_at table number)
 
 -- the check of numbers
 pub jobs_check-without_scripts : (user : List ℕ) (removing : Bool) (table : JobTable) (numbers : List ℕ) →
     jobs_check user removing (without_scripts table) numbers ≡ jobs_check user removing table numbers
 jobs_check-without_scripts user removing table [] = refl
 jobs_check-without_scripts user removing table (number ∷ later) =
-    ap (λ row. first_refusal (row_check user removing number row ∷ map (λ of. row_check user removing of (live_row (without_scripts table) of)) later)) (row_at-without_scripts table number)
-    ∙ first_of-same (row_check user removing number (live_row table number)) (map (λ of. row_check user removing of (live_row (without_scripts table) of)) later)
+    ap (λ row. first_refusal (row_check user removing number row
+    ∷ map (λ of. row_check user removing of (live_row (without_scripts table) of)) later)) (row_at-without_scripts table number)
+    ∙ first_of-same (row_check user removing number (live_row table number))
+    (map (λ of. row_check user removing of (live_row (without_scripts table) of)) later)
     (map (λ of. row_check user removing of (live_row table of)) later) (jobs_check-without_scripts user removing table later) where
       first_of-same : (one : Option Refusal) (some other : List (Option Refusal)) → first_refusal some ≡ first_refusal other →
           first_refusal (one ∷ some) ≡ first_refusal (one ∷ other)
@@ -45,10 +49,13 @@ jobs_check-without_scripts user removing table (number ∷ later) =
       first_of-same (Some refusal) some other same = refl
 
 -- the verdict on the table
-without_scripts_decides : (asked : ToolRequest) (caller : Caller) (table : JobTable) → table_verdict asked caller (Ok (without_scripts table)) ≡ table_verdict asked caller (Ok table)
+without_scripts_decides : (asked : ToolRequest) (caller : Caller) (table : JobTable)
+    → table_verdict asked caller (Ok (without_scripts table)) ≡ table_verdict asked caller (Ok table)
 without_scripts_decides (request.Submit queue mail file when) caller table =
-    ap (λ count. first_refusal (cond (nat_le MAX_LIVE count) (Some QueueFull) None ∷ number_check (without_scripts table) ∷ [])) (lists_as_on_the_table table).live_counted
-    ∙ ap (λ last. first_refusal (room_check table ∷ cond (nat_le LAST_NUMBER last) (Some NumbersUsedUp) None ∷ [])) (without_scripts_last table)
+    ap (λ count. first_refusal (cond (nat_le MAX_LIVE count) (Some QueueFull) None ∷ number_check (without_scripts table) ∷ []))
+    (lists_as_on_the_table table).live_counted
+    ∙ ap (λ last. first_refusal (room_check table ∷ cond (nat_le LAST_NUMBER last) (Some NumbersUsedUp) None ∷ []))
+    (without_scripts_last table)
 without_scripts_decides (request.List filter.All) caller table = refl
 without_scripts_decides (request.List (filter.Queue letter)) caller table = refl
 without_scripts_decides (request.List (filter.Numbers numbers)) caller table =

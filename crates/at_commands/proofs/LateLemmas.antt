@@ -58,7 +58,8 @@ row_on user removing number (Some row) = by_tests (may_see user row) (removing &
   by_tests true false = tt
   by_tests false runs = (record { input = refl; lock = refl }, refl)
 
-first_more : (one : Option Refusal) (later : List (Option Refusal)) → OnTable one → OnTable (first_refusal later) → OnTable (first_refusal (one ∷ later))
+first_more : (one : Option Refusal) (later : List (Option Refusal)) → OnTable one → OnTable (first_refusal later)
+    → OnTable (first_refusal (one ∷ later))
 first_more (Some refusal) later on after = on
 first_more None later on after = after
 
@@ -88,12 +89,14 @@ table_on (request.Daemon limit interval once turns) caller (Ok table) = tt
 table_on (request.Make count) caller (Ok table) = tt
 
 -- a refusal within a session comes of a late check
-spool_late_by : (permits : Bool) (verdict : Option Refusal) → OnTable verdict → AllLate (first_refusal (cond permits None (Some NotAllowed) ∷ verdict ∷ []))
+spool_late_by : (permits : Bool) (verdict : Option Refusal) → OnTable verdict
+    → AllLate (first_refusal (cond permits None (Some NotAllowed) ∷ verdict ∷ []))
 spool_late_by false verdict on = record { input = refl; lock = refl }
 spool_late_by true None on = tt
 spool_late_by true (Some refusal) on = on.0
 
-pub spool_late : (asked : ToolRequest) (caller : Caller) (found : Found) (shown : Result JobTable Damage) → AllLate (spool_verdict asked caller found shown)
+pub spool_late : (asked : ToolRequest) (caller : Caller) (found : Found) (shown : Result JobTable Damage)
+    → AllLate (spool_verdict asked caller found shown)
 spool_late asked caller found shown =
     spool_late_by (may_use caller.context.user found.allow found.deny) (table_verdict asked caller shown) (table_on asked caller shown)
 
@@ -130,7 +133,8 @@ not_at_lists place late = grind (arith, nat_tests)
 not_at_directory : (place : ℕ) → nat_lt 14 place ≡ true → nat_lt place 14 ≡ false
 not_at_directory place after = grind (arith, nat_tests)
 
-pub late_up_to : (verdict : Option Refusal) (reached : Check) → AllLate verdict → is_earlier_check reached of_lock ≡ true → ComesUpTo verdict reached
+pub late_up_to : (verdict : Option Refusal) (reached : Check) → AllLate verdict → is_earlier_check reached of_lock ≡ true
+    → ComesUpTo verdict reached
 late_up_to None reached late ahead = tt
 late_up_to (Some refusal) reached late ahead = not_earlier (place_of_check (check_of refusal)) (place_of_check reached) late.lock ahead
 

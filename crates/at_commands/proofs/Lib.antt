@@ -17,4 +17,3 @@ pub mod ServedLemmas
 pub mod SessionLemmas
 pub mod SubmitLemmas
 pub mod UnreadLemmas
-pub mod UserLemmas

@@ -29,12 +29,15 @@ use Rattle.command_rules.specs.Sessions.{CommandWorks}
 use Rattle.at_commands.specs.Removal.{AreRemoval}
 
 -- the jobs may be removed, by the steps as they were listed
-pub may_remove : {tells : Bool} {session : Session} {world : World} {kept : Kept} (numbers : List ℕ) (steps : List Step) → steps ≡ removes numbers → IsInside session →
-    AreLegal kept.table (removes numbers) → (tells ≡ true → (table : JobTable) × IsCurrent kept world.now.directory table) → MayMakeSteps tells session world kept steps
+pub may_remove : {tells : Bool} {session : Session} {world : World} {kept : Kept} (numbers : List ℕ) (steps : List Step)
+    → steps ≡ removes numbers → IsInside session →
+    AreLegal kept.table (removes numbers) → (tells ≡ true → (table : JobTable) × IsCurrent kept world.now.directory table)
+    → MayMakeSteps tells session world kept steps
 may_remove {tells} {session} {world} {kept} numbers steps is inside legal current = subst (MayMakeSteps tells session world kept) (sym is)
     (record { inside = inside; legal = legal; changes = changes_made Remove numbers (λ _. tt); current = current })
 
-module _ {tells : Bool} (known : tells ≡ true) (table : JobTable) (numbers : List ℕ) {kept : Kept} (old : World) (current : IsCurrent kept old.now.directory table)
+module _ {tells : Bool} (known : tells ≡ true) (table : JobTable) (numbers : List ℕ) {kept : Kept} (old : World)
+    (current : IsCurrent kept old.now.directory table)
     (kept_legal : AreLegal kept.table (removes numbers)) where
   -- the table after the removals, and the steps after them
   abbrev after : JobTable
@@ -45,11 +48,13 @@ module _ {tells : Bool} (known : tells ≡ true) (table : JobTable) (numbers : L
 
   legal : AreLegal table (removal_steps table numbers)
   legal = legal_then table (removes numbers) later
-      (all_legal_when_kept kept old.now.directory table (removes numbers) current (subst (AreLegal kept.table) (sym (map-map step_without_script Remove numbers)) kept_legal))
+      (all_legal_when_kept kept old.now.directory table (removes numbers) current
+      (subst (AreLegal kept.table) (sym (map-map step_without_script Remove numbers)) kept_legal))
       (surplus_legal after)
 
   -- the work was stopped by a fault
-  stopped : (new : World) (fault : StoreFault) → IsOfStep fault → Runs table (removal_steps table numbers) old new → CommandWorks (AreRemoval numbers) table old new (cause_of fault)
+  stopped : (new : World) (fault : StoreFault) → IsOfStep fault → Runs table (removal_steps table numbers) old new
+      → CommandWorks (AreRemoval numbers) table old new (cause_of fault)
   stopped new store.FileFault of_step run = inr (record { steps = removal_steps table numbers; are = refl; legal = legal; run = run })
   stopped new store.Memory of_step run = inr (record { steps = removal_steps table numbers; are = refl; legal = legal; run = run })
   stopped new _ of_step run = absurd of_step
@@ -58,7 +63,8 @@ module _ {tells : Bool} (known : tells ≡ true) (table : JobTable) (numbers : L
     -- at a removal
     pub removes_stopped : {fault : StoreFault} → MakesSteps tells before between old middle kept steps made (Err fault) →
         CommandWorks (AreRemoval numbers) table old middle (cause_of fault)
-    removes_stopped {fault} makes = stopped middle fault makes.faults (prefixes_run_as_the_steps table (removes numbers) (removal_steps table numbers) old middle (later, refl)
+    removes_stopped {fault} makes = stopped middle fault makes.faults
+        (prefixes_run_as_the_steps table (removes numbers) (removal_steps table numbers) old middle (later, refl)
         (subst (λ (l : List Step). Runs table l old middle) are (stopped_runs steps made makes.begun (makes.files known table current))))
 
     module _ {first : Kept} (makes : MakesSteps tells before between old middle kept steps made (Ok first)) where
@@ -72,16 +78,21 @@ module _ {tells : Bool} (known : tells ≡ true) (table : JobTable) (numbers : L
 
       module _ {forgotten : List Step} (are_later : forgotten ≡ forget_steps (surplus first.table)) where
         later_is : forgotten ≡ later
-        later_is = are_later ∙ ap (λ (t : JobTable). forget_steps (surplus t)) removed.current.without_scripts_is ∙ ap forget_steps (surplus_without_scripts after)
+        later_is = are_later ∙ ap (λ (t : JobTable). forget_steps (surplus t)) removed.current.without_scripts_is
+            ∙ ap forget_steps (surplus_without_scripts after)
 
         -- at one that forgets
-        pub forgets_stopped : {after_all : Session} {new : World} {forgot : ℕ} {fault : StoreFault} → MakesSteps tells between after_all middle new first forgotten forgot (Err fault) →
+        pub forgets_stopped : {after_all : Session} {new : World} {forgot : ℕ} {fault : StoreFault}
+            → MakesSteps tells between after_all middle new first forgotten forgot (Err fault) →
             CommandWorks (AreRemoval numbers) table old new (cause_of fault)
-        forgets_stopped {after_all} {new} {forgot} {fault} ends = stopped new fault ends.faults (runs_go_on table (removes numbers) later [] old middle new removed.through
-            (subst (λ (l : List Step). Runs after l middle new) later_is (stopped_runs forgotten forgot ends.begun (ends.files known after removed.current))))
+        forgets_stopped {after_all} {new} {forgot} {fault} ends =
+            stopped new fault ends.faults (runs_go_on table (removes numbers) later [] old middle new removed.through
+            (subst (λ (l : List Step). Runs after l middle new) later_is
+            (stopped_runs forgotten forgot ends.begun (ends.files known after removed.current))))
 
         -- all was done
-        pub all_removed : {after_all : Session} {new : World} {forgot : ℕ} {last : Kept} → MakesSteps tells between after_all middle new first forgotten forgot (Ok last) → CommandWorks (AreRemoval numbers) table old new Done
+        pub all_removed : {after_all : Session} {new : World} {forgot : ℕ} {last : Kept} → MakesSteps tells between after_all middle new
+            first forgotten forgot (Ok last) → CommandWorks (AreRemoval numbers) table old new Done
         all_removed {after_all} {new} {forgot} {last} ends = record {
           steps = removal_steps table numbers;
           kept = last;

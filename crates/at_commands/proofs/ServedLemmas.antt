@@ -61,10 +61,12 @@ at_rows : (rows : List Row) → IsNotServed (at_asked rows)
 at_rows rows =
     chosen IsNotServed (has_two_actions rows) (Err words.Usage) _ tt (
     chosen IsNotServed (is_set (codes "list") rows) (listing_asked rows) _
-    (chosen IsNotServed (has_submission_words rows) (Err words.Usage) (on_ok request.List (filter_asked (first_of (codes "queue") rows) (operands_of rows))) tt (listed _)) (
+    (chosen IsNotServed (has_submission_words rows) (Err words.Usage)
+    (on_ok request.List (filter_asked (first_of (codes "queue") rows) (operands_of rows))) tt (listed _)) (
     chosen IsNotServed (is_set (codes "remove") rows) (on_ok request.Remove (action_numbers rows)) _ (removed _) (
     chosen IsNotServed (is_set (codes "show") rows) (on_ok request.Show (action_numbers rows)) (submission_asked rows) (shown _)
-    (submitted (when_asked (first_of (codes "time") rows) (operands_of rows)) (queue_asked (first_of (codes "queue") rows)) (is_set (codes "mail") rows) (first_of (codes "file") rows)))))
+    (submitted (when_asked (first_of (codes "time") rows) (operands_of rows)) (queue_asked (first_of (codes "queue") rows))
+    (is_set (codes "mail") rows) (first_of (codes "file") rows)))))
 
 -- a tool that is no daemon
 abbrev pub IsNoDaemon : Tool → Type 0
@@ -78,7 +80,8 @@ IsNoDaemon Atday = Unit {0}
 -- what it is requested is not served
 pub not_served_to : (tool : Tool) (texts : List Text) → IsNoDaemon tool → IsNotServed (request_to tool texts)
 unfolding request_to
-not_served_to At texts is = taken IsNotServed tt (fault_of at_app texts) (at_asked (matches_of at_app texts)) (at_rows (matches_of at_app texts))
+not_served_to At texts is =
+    taken IsNotServed tt (fault_of at_app texts) (at_asked (matches_of at_app texts)) (at_rows (matches_of at_app texts))
 not_served_to Batch texts is = taken IsNotServed tt (fault_of batch_app texts) (batch_asked (matches_of batch_app texts)) tt
 not_served_to Atq texts is = taken IsNotServed tt (fault_of atq_app texts) (atq_asked (matches_of atq_app texts)) (listed _)
 not_served_to Atrm texts is = taken IsNotServed tt (fault_of atrm_app texts) (atrm_asked (matches_of atrm_app texts)) (removed _)
@@ -86,7 +89,8 @@ not_served_to Atd texts is = absurd is
 not_served_to Atday texts is = taken IsNotServed tt (fault_of atday_app texts) (atday_asked (matches_of atday_app texts)) (made _)
 
 -- the words of a tool that is no daemon request none
-pub not_served : (texts : List Text) (tool : Tool) (start : ℕ) → tool_of_words texts ≡ Some (tool, start) → IsNoDaemon tool → IsNotServed (request_of texts)
+pub not_served : (texts : List Text) (tool : Tool) (start : ℕ) → tool_of_words texts ≡ Some (tool, start) → IsNoDaemon tool
+    → IsNotServed (request_of texts)
 not_served texts tool start found is =
     subst (λ (of : Option (Tool × ℕ)). IsNotServed (request_by of texts)) (sym found) (not_served_to tool (drop (start - 1) texts) is)
 
@@ -114,19 +118,22 @@ abbrev IsSomeTurn : Option ℕ → Type 0
 IsSomeTurn None = Unit {0}
 IsSomeTurn (Some turns) = 1 ≤ turns
 
-some_within : (greatest number : ℕ) (is : Bool) → (nat_le 1 number && nat_le number greatest) ≡ is → IsSomeTurn (if is then Some number else None)
+some_within : (greatest number : ℕ) (is : Bool) → (nat_le 1 number && nat_le number greatest) ≡ is
+    → IsSomeTurn (if is then Some number else None)
 some_within greatest number true same = (let least : 1 ≤ number = grind (arith, nat_tests) in least)
 some_within greatest number false same = tt
 
 some_decimal : (greatest : ℕ) (text : List ℕ) (is : Bool) → IsSomeTurn (if is then within 1 greatest (decimal_of text) else None)
-some_decimal greatest text true = some_within greatest (decimal_of text) (nat_le 1 (decimal_of text) && nat_le (decimal_of text) greatest) refl
+some_decimal greatest text true =
+    some_within greatest (decimal_of text) (nat_le 1 (decimal_of text) && nat_le (decimal_of text) greatest) refl
 some_decimal greatest text false = tt
 
 some_turns : (text : Option Text) → IsSomeTurn (turns_asked text)
 some_turns None = lit≤ tt
 some_turns (Some text) = some_decimal _ text (are_decimal_digits 19 text)
 
-daemon_turns : (limit interval : Option ℕ) (once : Bool) (turns : Option ℕ) → IsSomeTurn turns → HasTurns (daemon_request limit interval once turns)
+daemon_turns : (limit interval : Option ℕ) (once : Bool) (turns : Option ℕ) → IsSomeTurn turns
+    → HasTurns (daemon_request limit interval once turns)
 daemon_turns None interval once turns some = tt
 daemon_turns (Some limit) None once turns some = tt
 daemon_turns (Some limit) (Some interval) once None some = tt
@@ -134,7 +141,8 @@ daemon_turns (Some limit) (Some interval) once (Some turns) some = some
 
 atd_rows : (rows : List Row) → HasTurns (atd_asked rows)
 atd_rows rows =
-    daemon_turns (limit_asked (first_of (codes "limit") rows)) (interval_asked (first_of (codes "interval") rows)) (is_set (codes "once") rows)
+    daemon_turns (limit_asked (first_of (codes "limit") rows)) (interval_asked (first_of (codes "interval") rows))
+    (is_set (codes "once") rows)
     (turns_asked (first_of (codes "turns") rows)) (some_turns (first_of (codes "turns") rows))
 
 atd_turns : (of : List Text) → HasTurns (request_to Atd of)
@@ -153,19 +161,27 @@ has_turns_by : (found : Option (Tool × ℕ)) (texts : List Text) → HasTurns (
 has_turns_by None texts = tt
 has_turns_by (Some found) texts = has_turns_to found.0 (drop (found.1 - 1) texts)
 
-pub has_turns : (texts : List Text) (limit interval : ℕ) (once : Bool) (turns : ℕ) → Ok (request.Daemon limit interval once turns) ≡ request_of texts → 1 ≤ turns
+pub has_turns : (texts : List Text) (limit interval : ℕ) (once : Bool) (turns : ℕ)
+    → Ok (request.Daemon limit interval once turns) ≡ request_of texts → 1 ≤ turns
 has_turns texts limit interval once turns is = subst HasTurns (sym is) (has_turns_by (tool_of_words texts) texts)
 
 -- where a daemon is requested, its name is that of the tool
-daemon_named_by : (texts : List Text) (found : Option (Tool × ℕ)) → tool_of_words texts ≡ found → (limit interval : ℕ) (once : Bool) (turns : ℕ)
+daemon_named_by : (texts : List Text) (found : Option (Tool × ℕ)) → tool_of_words texts ≡ found
+    → (limit interval : ℕ) (once : Bool) (turns : ℕ)
     → request_by found texts ≡ Ok (request.Daemon limit interval once turns) → tool_name_of texts ≡ codes "atd"
 daemon_named_by texts None found limit interval once turns is = cc
 daemon_named_by texts (Some (Atd, start)) found limit interval once turns is = ap name_or_at found
-daemon_named_by texts (Some (At, start)) found limit interval once turns is = absurd (subst IsNotServed is (not_served_to At (drop (start - 1) texts) tt))
-daemon_named_by texts (Some (Batch, start)) found limit interval once turns is = absurd (subst IsNotServed is (not_served_to Batch (drop (start - 1) texts) tt))
-daemon_named_by texts (Some (Atq, start)) found limit interval once turns is = absurd (subst IsNotServed is (not_served_to Atq (drop (start - 1) texts) tt))
-daemon_named_by texts (Some (Atrm, start)) found limit interval once turns is = absurd (subst IsNotServed is (not_served_to Atrm (drop (start - 1) texts) tt))
-daemon_named_by texts (Some (Atday, start)) found limit interval once turns is = absurd (subst IsNotServed is (not_served_to Atday (drop (start - 1) texts) tt))
+daemon_named_by texts (Some (At, start)) found limit interval once turns is =
+    absurd (subst IsNotServed is (not_served_to At (drop (start - 1) texts) tt))
+daemon_named_by texts (Some (Batch, start)) found limit interval once turns is =
+    absurd (subst IsNotServed is (not_served_to Batch (drop (start - 1) texts) tt))
+daemon_named_by texts (Some (Atq, start)) found limit interval once turns is =
+    absurd (subst IsNotServed is (not_served_to Atq (drop (start - 1) texts) tt))
+daemon_named_by texts (Some (Atrm, start)) found limit interval once turns is =
+    absurd (subst IsNotServed is (not_served_to Atrm (drop (start - 1) texts) tt))
+daemon_named_by texts (Some (Atday, start)) found limit interval once turns is =
+    absurd (subst IsNotServed is (not_served_to Atday (drop (start - 1) texts) tt))
 
-pub daemon_named : (texts : List Text) (limit interval : ℕ) (once : Bool) (turns : ℕ) → request_of texts ≡ Ok (request.Daemon limit interval once turns) → tool_name_of texts ≡ codes "atd"
+pub daemon_named : (texts : List Text) (limit interval : ℕ) (once : Bool) (turns : ℕ)
+    → request_of texts ≡ Ok (request.Daemon limit interval once turns) → tool_name_of texts ≡ codes "atd"
 daemon_named texts limit interval once turns is = daemon_named_by texts (tool_of_words texts) refl limit interval once turns is

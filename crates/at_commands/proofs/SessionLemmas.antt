@@ -26,7 +26,8 @@ use Rattle.at_commands.specs.inside.Session.{IsNoOutput, IsSpoolCause}
 use Rattle.at_commands.proofs.EntryLemmas.{IsOfEntry}
 
 -- no store was had
-pub not_opened_comes : (tells : Bool) (user : List ℕ) (old new : World) (cause : Cause) → IsNotOpened tells user old new cause → IsOfSession cause
+pub not_opened_comes : (tells : Bool) (user : List ℕ) (old new : World) (cause : Cause)
+    → IsNotOpened tells user old new cause → IsOfSession cause
 not_opened_comes tells user old new cause (lists_fault same) = tt
 not_opened_comes tells user old new cause (lists_lack_memory same) = tt
 not_opened_comes tells user old new cause (faults allow deny permits lists unbegun) = tt
@@ -43,7 +44,8 @@ store_comes store.NumbersUsedUp = refl
 store_comes store.Memory = tt
 
 -- nor does the output fail where none is put
-pub not_opened_of_spool : (tells : Bool) (user : List ℕ) (old new : World) (cause : Cause) → IsNotOpened tells user old new cause → IsSpoolCause cause
+pub not_opened_of_spool : (tells : Bool) (user : List ℕ) (old new : World) (cause : Cause)
+    → IsNotOpened tells user old new cause → IsSpoolCause cause
 not_opened_of_spool tells user old new cause (lists_fault same) = tt
 not_opened_of_spool tells user old new cause (lists_lack_memory same) = tt
 not_opened_of_spool tells user old new cause (faults allow deny permits lists unbegun) = tt
@@ -104,7 +106,8 @@ showing_comes (Ok value) comes = tt
 showing_comes (Err stopped) comes = showing_of_session stopped.cause comes
 
 -- the cause of an answer, where it is that of a fault of the output
-pub cause_output_fault : {T : Type 0} (result : Result T CommandError) → cause_in result ≡ OutputFault → IsErrOf result (error_of OutputFault)
+pub cause_output_fault : {T : Type 0} (result : Result T CommandError) → cause_in result ≡ OutputFault
+    → IsErrOf result (error_of OutputFault)
 cause_output_fault (Ok value) is = let no : Done ≡ OutputFault = is in cc
 cause_output_fault (Err stopped) is = ap (λ (of : Cause). Err (error_of of)) is
 
@@ -118,11 +121,13 @@ no_output_in (Ok value) is same = let no : Done ≡ OutputFault = same in cc
 no_output_in (Err stopped) is same = no_output_of_spool stopped is same
 
 -- an out-of-memory error comes of the spool
-pub memory_comes : {T : Type 0} (result : Result T CommandError) → IfErr result (λ stopped. stopped ≡ error_of Memory) → IfErr result ComesOfSession
+pub memory_comes : {T : Type 0} (result : Result T CommandError) → IfErr result (λ stopped. stopped ≡ error_of Memory)
+    → IfErr result ComesOfSession
 memory_comes (Ok value) lacks = tt
 memory_comes (Err stopped) lacks = subst (λ (of : CommandError). IsOfSession of.cause) (sym lacks) tt
 
-pub memory_no_output : {T : Type 0} (result : Result T CommandError) → IfErr result (λ stopped. stopped ≡ error_of Memory) → IfErr result IsNoOutput
+pub memory_no_output : {T : Type 0} (result : Result T CommandError) → IfErr result (λ stopped. stopped ≡ error_of Memory)
+    → IfErr result IsNoOutput
 memory_no_output (Ok value) lacks = tt
 memory_no_output (Err stopped) lacks = subst (λ (of : CommandError). IsSpoolCause of.cause) (sym lacks) tt
 
@@ -132,7 +137,8 @@ no_output_error (Ok value) comes is = let no : ◌≡◌ {A = Result _ CommandEr
 no_output_error (Err stopped) comes is =
     let same : stopped ≡ error_of OutputFault = cc in subst (λ (of : CommandError). IsSpoolCause of.cause) same comes
 
-pub no_output_of_stopped : (stopped : CommandError) → IsNoOutput stopped → ◌≡◌ {A = Result (Unit {0}) CommandError} (Err stopped) (Err (error_of OutputFault)) → ⊥
+pub no_output_of_stopped : (stopped : CommandError) → IsNoOutput stopped
+    → ◌≡◌ {A = Result (Unit {0}) CommandError} (Err stopped) (Err (error_of OutputFault)) → ⊥
 no_output_of_stopped stopped of_spool is = no_output_error (Err stopped) of_spool is
 
 -- where nothing was done, the spool stays as it is
@@ -160,7 +166,8 @@ pub jobs_come : (user : List ℕ) (removing : Bool) (table : JobTable) (numbers 
     Some refusal ≡ jobs_check user removing table numbers → IsOfSession (Refused refusal)
 jobs_come user removing table numbers refusal is = (subst OnTable (sym is) (jobs_on user removing table numbers)).0.lock
 
-pub filter_comes : (user : List ℕ) (table : JobTable) (which : Filter) (refusal : Refusal) → Some refusal ≡ filter_check user table which → IsOfSession (Refused refusal)
+pub filter_comes : (user : List ℕ) (table : JobTable) (which : Filter) (refusal : Refusal) → Some refusal ≡ filter_check user table which
+    → IsOfSession (Refused refusal)
 filter_comes user table filter.All refusal is = absurd (let no : ◌≡◌ {A = Option Refusal} (Some refusal) None = is in cc)
 filter_comes user table (filter.Queue letter) refusal is = absurd (let no : ◌≡◌ {A = Option Refusal} (Some refusal) None = is in cc)
 filter_comes user table (filter.Numbers numbers) refusal is = jobs_come user false table numbers refusal is

@@ -47,11 +47,13 @@ pub header_of_job : (caller : Caller) (mail : Bool) (commands script : List ℕ)
 header_of_job caller mail commands script is =
     ap header_in is.text ∙ header_of_written caller.context mail commands is.user
 
-pub has_header : (caller : Caller) (mail : Bool) (commands script : List ℕ) → IsJobOf caller mail commands script → IsSome (header_in script)
+pub has_header : (caller : Caller) (mail : Bool) (commands script : List ℕ) → IsJobOf caller mail commands script
+    → IsSome (header_in script)
 has_header caller mail commands script is = ap is_some (header_of_job caller mail commands script is)
 
 -- so its job is that of the submission
-pub job_same : (caller : Caller) (queue minute : ℕ) (mail : Bool) (time : Result ℕ Refusal) (commands script : List ℕ) → IsJobOf caller mail commands script →
+pub job_same : (caller : Caller) (queue minute : ℕ) (mail : Bool) (time : Result ℕ Refusal) (commands script : List ℕ)
+    → IsJobOf caller mail commands script →
     minute ≡ minute_in time → job_of_script queue minute script ≡ job_for caller.context queue mail (minute_in time) commands
 job_same caller queue minute mail time commands script is same =
     ap (λ (of : List ℕ). job_of_script queue minute of) is.text
@@ -61,7 +63,8 @@ job_same caller queue minute mail time commands script is same =
 -- The checks on a table.
 
 verdict_by : (table : JobTable) (full used : Bool) → nat_le MAX_LIVE (live_count table) ≡ full → nat_le LAST_NUMBER table.last ≡ used →
-    first_refusal (room_check table ∷ number_check table ∷ []) ≡ cond full (Some refusal.QueueFull) (cond used (Some refusal.NumbersUsedUp) None)
+    first_refusal (room_check table ∷ number_check table ∷ [])
+    ≡ cond full (Some refusal.QueueFull) (cond used (Some refusal.NumbersUsedUp) None)
 verdict_by table true used is_full is_used = rw is_full refl
 verdict_by table false true is_full is_used = rw (is_full, is_used) refl
 verdict_by table false false is_full is_used = rw (is_full, is_used) refl
@@ -69,7 +72,8 @@ verdict_by table false false is_full is_used = rw (is_full, is_used) refl
 full_refused : (table : JobTable) → IsFull table → first_refusal (room_check table ∷ number_check table ∷ []) ≡ Some refusal.QueueFull
 full_refused table full = verdict_by table true _ (grind (arith, nat_tests)) refl
 
-used_up_refused : (table : JobTable) → IsUsedUp table → first_refusal (room_check table ∷ number_check table ∷ []) ≡ Some refusal.NumbersUsedUp
+used_up_refused : (table : JobTable) → IsUsedUp table
+    → first_refusal (room_check table ∷ number_check table ∷ []) ≡ Some refusal.NumbersUsedUp
 used_up_refused table used =
     let few : live_count table < MAX_LIVE = used.room in
     let last : table.last ≡ LAST_NUMBER = used.greatest in
@@ -85,8 +89,10 @@ room_accepted table has =
     let number : nat_le LAST_NUMBER table.last ≡ false = grind (arith, nat_tests) in
     verdict_by table false false room number
 
-module _ (tells : Bool) (caller : Caller) (queue minute : ℕ) (script : List ℕ) (mail : Bool) (file : Option (List ℕ)) (when : When) (now : ℤ)
-    (time : Result ℕ Refusal) (commands : List ℕ) (is_job : IsJobOf caller mail commands script) (same_minute : minute ≡ minute_in time) where
+module _ (tells : Bool) (caller : Caller) (queue minute : ℕ) (script : List ℕ) (mail : Bool)
+    (file : Option (List ℕ)) (when : When) (now : ℤ)
+    (time : Result ℕ Refusal) (commands : List ℕ) (is_job : IsJobOf caller mail commands script)
+    (same_minute : minute ≡ minute_in time) where
   abbrev asked : ToolRequest
   asked = request.Submit queue mail file when
 
@@ -97,9 +103,11 @@ module _ (tells : Bool) (caller : Caller) (queue minute : ℕ) (script : List �
   keeps = record { allow_is = λ allow deny. refl; deny_is = λ allow deny. refl }
 
   -- no store was had
-  pub store_not_opened : (user : List ℕ) (cause : Cause) (old new : World) → caller.context.user ≡ user → IsNotOpened tells user old new cause →
+  pub store_not_opened : (user : List ℕ) (cause : Cause) (old new : World) → caller.context.user ≡ user
+      → IsNotOpened tells user old new cause →
       Stores tells true asked caller finding old new (Err (error_of cause))
-  store_not_opened user cause old new same is = record { carries = not_opened tells true asked caller finding keeps old new user cause same is; number = tt }
+  store_not_opened user cause old new same is =
+      record { carries = not_opened tells true asked caller finding keeps old new user cause same is; number = tt }
 
   module _ (old middle new : World) (kept : Kept) (opened : IsStoreOpened tells caller.context.user old middle kept) where
     abbrev table : JobTable
@@ -116,7 +124,8 @@ module _ (tells : Bool) (caller : Caller) (queue minute : ℕ) (script : List �
 
     legal : tells ≡ true → HasRoom kept.table → AreLegal table steps
     legal known room =
-        submission_legal table (job_of_script queue minute script) (shown_tables_are_sound (reading old) table (opened.recovered known).shown)
+        submission_legal table (job_of_script queue minute script)
+        (shown_tables_are_sound (reading old) table (opened.recovered known).shown)
         (subst (λ (last : ℕ). last < LAST_NUMBER) (kept_last kept.table table opened.keeps) room.more)
 
     -- the submission failed on the way
@@ -144,15 +153,18 @@ module _ (tells : Bool) (caller : Caller) (queue minute : ℕ) (script : List �
       number = tt;
     }
     store_failed NoMemory answer same call = record {
-      carries = work_lacks_memory tells true asked caller finding keeps old middle new kept opened (λ known. inr (worked_on NoMemory answer call known));
+      carries = work_lacks_memory tells true asked caller finding keeps old middle new kept opened
+          (λ known. inr (worked_on NoMemory answer call known));
       number = tt;
     }
     store_failed QueueFull answer same call = record {
-      carries = work_refused tells true asked caller finding keeps old middle new kept opened refusal.QueueFull (full_refused kept.table answer) (same (inl refl));
+      carries = work_refused tells true asked caller finding keeps old middle new kept opened refusal.QueueFull
+          (full_refused kept.table answer) (same (inl refl));
       number = tt;
     }
     store_failed NumbersUsedUp answer same call = record {
-      carries = work_refused tells true asked caller finding keeps old middle new kept opened refusal.NumbersUsedUp (used_up_refused kept.table answer) (same (inr refl));
+      carries = work_refused tells true asked caller finding keeps old middle new kept opened refusal.NumbersUsedUp
+          (used_up_refused kept.table answer) (same (inr refl));
       number = tt;
     }
     store_failed (Damaged damage) answer same call = absurd answer
@@ -168,7 +180,8 @@ module _ (tells : Bool) (caller : Caller) (queue minute : ℕ) (script : List �
             steps = steps;
             kept = store;
             are = are (room_accepted kept.table answer.0);
-            made = calls_make_their_steps table steps store middle new (legal known answer.0) tt current.shows (call known table current).files
+            made =
+                calls_make_their_steps table steps store middle new (legal known answer.0) tt current.shows (call known table current).files
                 (call known table current).current (call known table current).others;
           }));
       number = answer.1 ∙ ap (λ (last : ℕ). last + 1) (kept_last kept.table table opened.keeps);
@@ -177,10 +190,12 @@ module _ (tells : Bool) (caller : Caller) (queue minute : ℕ) (script : List �
   -- the spool could not be entered
   pub store_not_entered : (alone : Bool) (cause : Cause) (old new : World) → IsOfEntry cause → (tells ≡ true → alone ≡ true → new ≡ old) →
       Stores tells alone asked caller finding old new (Err (error_of cause))
-  store_not_entered alone cause old new entry same = record { carries = not_entered tells alone asked caller finding keeps old new cause entry same; number = tt }
+  store_not_entered alone cause old new entry same =
+      record { carries = not_entered tells alone asked caller finding keeps old new cause entry same; number = tt }
 
 -- what a session stored holds after it
-pub stores_within : (tells alone : Bool) (asked : ToolRequest) (caller : Caller) (finding : Finding) (before entered left after : World) (result : Result ℕ CommandError) →
+pub stores_within : (tells alone : Bool) (asked : ToolRequest) (caller : Caller) (finding : Finding) (before entered left after : World)
+    (result : Result ℕ CommandError) →
     (tells ≡ true → alone ≡ true → entered ≡ before) → (tells ≡ true → alone ≡ true → after ≡ left) →
     Stores tells true asked caller finding entered left result → Stores tells alone asked caller finding before after result
 stores_within tells alone asked caller finding before entered left after result enters leaves stores = record {

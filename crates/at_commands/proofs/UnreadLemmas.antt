@@ -58,7 +58,8 @@ answers_unread (Ok (request.Daemon limit interval once turns)) now answers = ref
 answers_unread (Ok (request.Make count)) now answers = refl
 answers_unread (Err fault) now answers = refl
 
-finds_unread : (tells : Bool) (asked : Asked) (zone : Zone) (contents : Contents) (found : Found) → Finds tells asked zone contents of_words found
+finds_unread : (tells : Bool) (asked : Asked) (zone : Zone) (contents : Contents) (found : Found)
+    → Finds tells asked zone contents of_words found
 finds_unread tells (Ok (request.Submit queue mail file when)) zone contents found =
     record { time = λ beyond. absurd (no_true beyond); commands = λ known beyond. absurd (no_true beyond) }
 finds_unread tells (Ok (request.List filter)) zone contents found = tt
@@ -72,7 +73,8 @@ finds_unread tells (Err fault) zone contents found = tt
 pub unchecked : (at : SinkAt) → IsSilent at at
 unchecked at = record { content = refl; later = omega arith }
 
-pub ends_at_words : (asked : Asked) (caller : Caller) (tells : Telling) (at : Holding) (cause : Cause) → IsEarly cause → Reaches cause of_words →
+pub ends_at_words : (asked : Asked) (caller : Caller) (tells : Telling) (at : Holding) (cause : Cause) → IsEarly cause
+    → Reaches cause of_words →
     ((found : Found) (shown : Result JobTable Damage) → KeepsOrder (verdict_of asked caller found shown) cause) →
     CommandEnds NotesBy asked caller tells at at cause
 ends_at_words asked caller tells at cause early reach order =
@@ -92,7 +94,8 @@ ends_at_words asked caller tells at cause early reach order =
       directory = λ known is_alone. record { allow = refl; deny = refl; table = refl };
       apart = λ known is_alone is. refl;
       spool = λ known is_alone. untouched (AreAskedSteps asked caller found) at.spool at.spool cause of_words early reach refl refl;
-      prints = λ known is_alone tells_output. silent_prints cause (IsAskedText asked caller found shown) at.output at.output early (unchecked at.output);
+      prints = λ known is_alone tells_output.
+          silent_prints cause (IsAskedText asked caller found shown) at.output at.output early (unchecked at.output);
       listed = λ known is_alone is same. absurd (subst (λ (of : Cause). IsEarly of) same early);
       notes = λ tells_errors. silent_notes cause (IsAskedLine asked caller found shown) at.errors at.errors early (unchecked at.errors);
     }

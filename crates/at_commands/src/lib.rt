@@ -3,11 +3,11 @@
 #![tactic(auto)]
 
 mod cause;
+mod lines;
 mod list;
 mod removal;
 mod remove;
 mod run_command;
-mod say_accepted;
 mod show;
 mod submit;
 

@@ -21,7 +21,7 @@ ghost use Rattle.spool_session.specs.Sessions.{ComesOfSession, HasRisenIn, Stays
 ghost use Rattle.at_commands.specs.inside.Session.{IsNoOutput};
 ghost use Rattle.at_commands.specs.inside.StoredJob.{AnswersJob, StoresJob};
 
-use crate::say_accepted::say_accepted;
+use crate::lines::say_accepted;
 use at_words::When;
 use civil_minute::Zone;
 use command_rules::{Caller, CommandError, cause_of_put};

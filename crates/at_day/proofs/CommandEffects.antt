@@ -36,10 +36,12 @@ follow_removes : (numbers : List ℕ) (after : List Step) → FollowDraws false 
 follow_removes [] after follow = follow
 follow_removes (number ∷ later) after follow = follow_removes later after follow
 
-follow_asked : (asked : Asked) (caller : Caller) (found : Found) (table : JobTable) → FollowDraws false (steps_asked asked caller found table)
+follow_asked : (asked : Asked) (caller : Caller) (found : Found) (table : JobTable)
+    → FollowDraws false (steps_asked asked caller found table)
 follow_asked (Ok (request.Submit queue mail file when)) caller found table = (refl, tt)
 follow_asked (Ok (request.List filter)) caller found table = tt
-follow_asked (Ok (request.Remove numbers)) caller found table = follow_removes numbers (forget_steps (surplus (after_steps table (removes numbers)))) (follow_forgets (surplus (after_steps table (removes numbers))))
+follow_asked (Ok (request.Remove numbers)) caller found table = follow_removes numbers
+    (forget_steps (surplus (after_steps table (removes numbers)))) (follow_forgets (surplus (after_steps table (removes numbers))))
 follow_asked (Ok (request.Show numbers)) caller found table = tt
 follow_asked (Ok (request.Daemon limit interval once turns)) caller found table = tt
 follow_asked (Ok (request.Make count)) caller found table = tt
@@ -132,7 +134,8 @@ module _ (words : List (List ℕ)) (caller : Caller) (input : List ℕ) (now : �
       (Partial table steps, (refl, inl (strict table steps is are)), (follow_are (request_of words) caller found table steps are, begun))
   begun_effect table steps is (inr none) begun = (Partial table steps, (refl, inr none), (follow_none steps none, begun))
 
-  attempt_effect : Attempts (OrNone (AreAskedSteps (request_of words) caller found)) old new → EffectsBy false words caller input now old new
+  attempt_effect : Attempts (OrNone (AreAskedSteps (request_of words) caller found)) old new
+      → EffectsBy false words caller input now old new
   attempt_effect attempts = elim (either (is_earlier_check reached of_spool)) [
     | inl early ↦ unbegun_effect false refl (apart early)
     | inr is ↦ elim attempts [

@@ -64,7 +64,8 @@ done_counted passes table kept decided is lists =
     (λ (one : Decided). one.number) decided (λ k d inside. fate_at (get_or decided k d) (All-contains_itself decided k d inside)) where
       fate_at : (one : Decided) → Contains decided one → is_done_so passes (entry_at table one.number) ≡ passes one.fate
       fate_at one has = done_through passes (entry_at table one.number) one.fate
-          (sym (entries_are_without_scripts table one.number) ∙ (ap (λ (of : JobTable). entry_at of one.number) (sym is) ∙ lists.each one has))
+          (sym (entries_are_without_scripts table one.number)
+          ∙ (ap (λ (of : JobTable). entry_at of one.number) (sym is) ∙ lists.each one has))
 
 -- entries that rise from above one number to another are no more than these lie apart
 few_between : (list : List (ℕ × JobEntry)) (low high : ℕ) → T (below_all nat_cmp low list) → T (is_sorted nat_cmp list) → low ≤ high →

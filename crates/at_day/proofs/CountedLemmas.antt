@@ -62,7 +62,8 @@ last_is table kept is = ap (λ (of : JobTable). of.last) is
 -- a recovery, and the counts of what it kept
 pub counted : (old new : Session) (before after : World) (kept : Kept) → IsRecovered before.now.directory after.now.directory kept →
     (rows : List Row) → ListsLive kept.table rows → (decided : List Decided) → ListsDecided kept.table decided →
-    (counts : Counts) → counts.last ≡ kept.table.last → counts.pending ≡ count_by is_waiting_row rows → counts.running ≡ count_by is_running_row rows →
+    (counts : Counts) → counts.last ≡ kept.table.last → counts.pending ≡ count_by is_waiting_row rows
+    → counts.running ≡ count_by is_running_row rows →
     counts.removed ≡ count_by (λ one. was_removed one.fate) decided →
     counts.finished ≡ count_by (λ one. was_finished one.fate) decided →
     counts.not_started ≡ count_by (λ one. was_not_started one.fate) decided →
@@ -71,8 +72,10 @@ counted old new before after kept recovered rows live decided done counts last p
     let is : kept.table ≡ without_scripts recovered.table = recovered.current.without_scripts_is in
     let listed : live_rows recovered.table ≡ rows = live_is recovered.table kept.table rows is live in
     let first : counts.last ≡ recovered.table.last = last ∙ last_is recovered.table kept.table is in
-    let second : counts.pending ≡ count_by is_waiting_row (live_rows recovered.table) = pending ∙ ap (count_by is_waiting_row) (sym listed) in
-    let third : counts.running ≡ count_by is_running_row (live_rows recovered.table) = running ∙ ap (count_by is_running_row) (sym listed) in
+    let second : counts.pending ≡ count_by is_waiting_row (live_rows recovered.table) = pending
+    ∙ ap (count_by is_waiting_row) (sym listed) in
+    let third : counts.running ≡ count_by is_running_row (live_rows recovered.table) = running
+    ∙ ap (count_by is_running_row) (sym listed) in
     let fourth : counts.removed ≡ done_so was_removed recovered.table =
     removed ∙ sym (done_counted was_removed recovered.table kept.table decided is done) in
     let fifth : counts.finished ≡ done_so was_finished recovered.table =

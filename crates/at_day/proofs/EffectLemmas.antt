@@ -98,7 +98,8 @@ given_effects words caller input now status out err old new given =
 
 -- a move of an event
 abbrev pub EventEffects : Event → EventReport → Machine → Machine → Type 0
-EventEffects event answer old new = (effect : Effect) × IsEventEffect event answer old effect × TakesEffect effect (spool_of old) (spool_of new)
+EventEffects event answer old new = (effect : Effect) × IsEventEffect event answer old effect
+    × TakesEffect effect (spool_of old) (spool_of new)
 
 pub happens_takes_effect : (event : Event) (answer : EventReport) (old new : Machine) → Happens event answer old new →
     EventEffects event answer old new

@@ -28,12 +28,14 @@ use Rattle.at_day.proofs.EffectLemmas.{happens_takes_effect}
 
 -- one outcome more
 
-done_more : (from : Machine) (outcomes : List EventOutcome) (outcome : EventOutcome) → AreDoneOn from outcomes → IsDoneOn (machine_after from outcomes) outcome →
+done_more : (from : Machine) (outcomes : List EventOutcome) (outcome : EventOutcome) → AreDoneOn from outcomes
+    → IsDoneOn (machine_after from outcomes) outcome →
     AreDoneOn from (outcomes ++ outcome ∷ [])
 done_more from [] outcome done one = (one, tt)
 done_more from (earlier ∷ later) outcome done one = (done.0, done_more earlier.left later outcome done.1 one)
 
-after_more : (from : Machine) (outcomes : List EventOutcome) (outcome : EventOutcome) → machine_after from (outcomes ++ outcome ∷ []) ≡ outcome.left
+after_more : (from : Machine) (outcomes : List EventOutcome) (outcome : EventOutcome)
+    → machine_after from (outcomes ++ outcome ∷ []) ≡ outcome.left
 after_more from [] outcome = refl
 after_more from (earlier ∷ later) outcome = after_more earlier.left later outcome
 
@@ -43,7 +45,8 @@ pass_from : (first : Machine) (outcomes : List EventOutcome) → AreDoneOn first
 pass_from first [] done = tt
 pass_from first (outcome ∷ later) done = (done.0.moved, pass_from outcome.left later done.1)
 
-pub keeps_promise : EventsHandOnce → (first : Machine) (outcomes : List EventOutcome) → AreDoneOn first outcomes → KeepsPromise first outcomes
+pub keeps_promise : EventsHandOnce → (first : Machine) (outcomes : List EventOutcome) → AreDoneOn first outcomes
+    → KeepsPromise first outcomes
 keeps_promise law first outcomes done opening shows =
     law opening (passed_events outcomes) (spool_of first) shows (pass_from first outcomes done)
 
@@ -57,10 +60,12 @@ kept_kids old new kids watched same kept are =
     subst (λ (children : List Child). AreChildren children watched) (sym same)
     (subst (AreChildren old) (sym kept) are)
 
-pub ready_after : (event : Event) (answer : EventReport) (old new : Machine) → Happens event answer old new → IsMachineReady old → IsMachineReady new
+pub ready_after : (event : Event) (answer : EventReport) (old new : Machine) → Happens event answer old new
+    → IsMachineReady old → IsMachineReady new
 ready_after (Command words caller input now) (known.Command status out err) old new given ready = record {
   outside = given.host.left.outside;
-  children = kept_kids (machine_session old).children (machine_session new).children old.daemon.kids new.daemon.kids given.host.left.children
+  children =
+      kept_kids (machine_session old).children (machine_session new).children old.daemon.kids new.daemon.kids given.host.left.children
       (ap (λ (daemon : DaemonState). daemon.kids) given.daemon) ready.children;
 }
 ready_after (Turn now load) (known.Turn turned) old new turns ready = record { outside = turns.outside; children = turns.children }
@@ -114,7 +119,8 @@ pub one_more_done : (events : List Event) (count : ℕ) (reports : List EventRep
     (happens : Happens event answer now after) → AreDoneOn first (so.outcomes ++ outcome_of event answer now after happens ∷ [])
 one_more_done events count reports first now so event answer after happens =
     done_more first so.outcomes (outcome_of event answer now after happens) so.done
-    (subst (λ (at : Machine). IsDoneOn at (outcome_of event answer now after happens)) (sym so.now_is) (outcome_is_done event answer now after happens))
+    (subst (λ (at : Machine). IsDoneOn at (outcome_of event answer now after happens)) (sym so.now_is)
+    (outcome_is_done event answer now after happens))
 
 one_more_event : (events : List Event) (count : ℕ) (outcomes : List EventOutcome) (outcome : EventOutcome) → count < length events →
     outcome.event ≡ get_or events count outcome.event → events_of outcomes ≡ take count events →
@@ -207,6 +213,7 @@ so_far_more events count reports beyond first now so event inside is answer afte
     (one_more events count reports first now so event inside is answer after happens)
 
 -- no session is on where the event was not reported
-pub outside_after : (event : Event) (now after : Machine) → IsMachineReady now → IsUnreported event now after → IsOutside (machine_session after)
+pub outside_after : (event : Event) (now after : Machine) → IsMachineReady now → IsUnreported event now after
+    → IsOutside (machine_session after)
 outside_after event now after ready (inl same) = subst IsOutside (sym same.host.session) ready.outside
 outside_after event now after ready (inr happened) = (ready_after event happened.0 now after happened.1 ready).outside

@@ -58,7 +58,8 @@ day_put tells count counts old new (Err sink.Failed) comes puts = (
 day_put tells count counts old new (Err sink.Memory) comes puts = inr (record { counts = counts; comes = comes; puts = puts.puts })
 
 -- memory ran out before the first of them
-pub day_stopped : (tells : Bool) (count : ℕ) (at : SinkAt) (result : Result (Unit {0}) SinkFault) → IsErrAnd result (λ why. why ≡ sink.Memory) →
+pub day_stopped : (tells : Bool) (count : ℕ) (at : SinkAt) (result : Result (Unit {0}) SinkFault)
+    → IsErrAnd result (λ why. why ≡ sink.Memory) →
     PutsDay tells count at at result
 day_stopped tells count at (Ok done) is = absurd is
 day_stopped tells count at (Err why) is =
@@ -119,7 +120,8 @@ module _ (tool : List ℕ) (old new : SinkAt) where
 
   pub line_said : (tells : Bool) (cause final : Cause) → IsSaid tool tells cause old new final → tells ≡ true →
       EndsLine tool final old new
-  line_said tells cause final (inl as_is) known = subst (λ (of : Cause). EndsLine tool of old new) (sym as_is.0) (line_ends cause (as_is.1 known))
+  line_said tells cause final (inl as_is) known =
+      subst (λ (of : Cause). EndsLine tool of old new) (sym as_is.0) (line_ends cause (as_is.1 known))
   line_said tells cause final (inr lacks) known =
       subst (λ (of : Cause). EndsLine tool of old new) (sym lacks.1) (none_in_part (cause_line_of tool Memory) old new (lacks.2 known))
 

@@ -65,7 +65,8 @@ shows_at_first count host new image is =
 
 -- What it shows after the events.
 
-world_left : (first : Machine) (outcomes : List EventOutcome) → world_after (spool_of first) (passed_events outcomes) ≡ spool_of (machine_after first outcomes)
+world_left : (first : Machine) (outcomes : List EventOutcome)
+    → world_after (spool_of first) (passed_events outcomes) ≡ spool_of (machine_after first outcomes)
 world_left first [] = refl
 world_left first (outcome ∷ later) = world_left outcome.left later
 

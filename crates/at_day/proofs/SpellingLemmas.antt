@@ -73,7 +73,8 @@ no_print_fault (Ok (request.Make count)) out_old out_new err_old err_new a b c d
 no_print_fault (Err fault) out_old out_new err_old err_new a b c d fails = no_rise _ _ a b fails
 
 -- what a sink holds that has never failed
-is_unfailing : (content : List ℕ) (outlet : Outlet) (text : List ℕ) → content ≡ text → outlet.sink_faults ≡ 0 → sink_at content outlet ≡ unfailing text
+is_unfailing : (content : List ℕ) (outlet : Outlet) (text : List ℕ) → content ≡ text → outlet.sink_faults ≡ 0
+    → sink_at content outlet ≡ unfailing text
 is_unfailing content outlet text is none =
     let with_faults : ℕ → SinkAt = λ faults. record { content = text; faults = faults } in
     ap (λ (of : List ℕ). sink_at of outlet) is ∙ ap with_faults none
@@ -143,7 +144,8 @@ pub record HasEnded (words : List (List ℕ)) (caller : Caller) (old new : Memor
 -- the ends of the command, over what it was handed and what it left
 abbrev GivenEnds : List (List ℕ) → Caller → List ℕ → World → World → Answers → List ℕ → List ℕ → Cause → Type 0
 GivenEnds words caller input old new answers out err cause =
-    CommandEnds (SaysBy (tool_name_of words)) (request_of words) caller all_known (at_first old input) (at_last new answers input out err) cause
+    CommandEnds (SaysBy (tool_name_of words)) (request_of words) caller all_known (at_first old input)
+    (at_last new answers input out err) cause
 
 module _ (words : List (List ℕ)) (caller : Caller) (input : List ℕ) (now : ℤ) (old new : MemoryHost) (readings readings_new : ListReadings)
     (inputs inputs_new : MemoryInputs) (out out_new err err_new : MemorySink) (status : Status)
@@ -199,7 +201,8 @@ module _ (words : List (List ℕ)) (caller : Caller) (input : List ℕ) (now : �
     busy = ended.busy;
     file_fault = ended.file_fault;
     no_input_fault = λ is. no_rise (sources_so_far inputs).input_faults (sources_so_far inputs_new).input_faults
-        (inputs_keep inputs input input made.sources) (inputs_keep inputs_new input input (stay.sources ∙ made.sources)) (ended.input_fault is);
+        (inputs_keep inputs input input made.sources)
+        (inputs_keep inputs_new input input (stay.sources ∙ made.sources)) (ended.input_fault is);
     no_output_fault = λ is. no_print_fault (request_of words) (outlet_so_far out) (outlet_so_far out_new) (outlet_so_far err)
         (outlet_so_far err_new) out_whole out_new_whole err_whole err_new_whole (ended.output_fault is);
     not_running = ended.not_running;

@@ -17,7 +17,8 @@ pub all_kept : {X : Type 0} (keep : X → Bool) (xs : List X) → length (filter
 all_kept keep [] same = refl
 all_kept keep (x ∷ xs) same = by_test (λ many. all_kept keep xs many) (keep x) same where
   by_test : (length (filter keep xs) ≡ length xs → filter keep xs ≡ xs) → (test : Bool)
-      → length (cond test (x ∷ filter keep xs) (filter keep xs)) ≡ length (x ∷ xs) → cond test (x ∷ filter keep xs) (filter keep xs) ≡ x ∷ xs
+      → length (cond test (x ∷ filter keep xs) (filter keep xs)) ≡ length (x ∷ xs)
+      → cond test (x ∷ filter keep xs) (filter keep xs) ≡ x ∷ xs
   by_test rest true many = ap (λ later. x ∷ later) (rest (omega (arith, many)))
   by_test rest false many = absurd (omega (arith, many, no_longer keep xs))
 

@@ -16,7 +16,8 @@ pub live_row : (table : JobTable) (number : ℕ) (row : Row) → IsRowOf table n
 live_row table number row is = ap is_of_live is.held
 
 -- and one without is not
-not_live : (entry : Option JobEntry) (number : ℕ) (table : JobTable) → entry_at table number ≡ entry → (IsLive table number → ⊥) → is_of_live entry ≡ false
+not_live : (entry : Option JobEntry) (number : ℕ) (table : JobTable) → entry_at table number ≡ entry → (IsLive table number → ⊥)
+    → is_of_live entry ≡ false
 not_live None number table is none = refl
 not_live (Some (Done fate)) number table is none = refl
 not_live (Some (Live job state)) number table is none = absurd (none (job, state, is))

@@ -4,9 +4,13 @@ pub mod KeptLemmas
 pub mod LeavingLemmas
 pub mod MakingLemmas
 pub mod NamedLemmas
+pub mod NotingEventLemmas
+pub mod NotingLemmas
+pub mod OnceBase
 pub mod OnceLemmas
 pub mod ProgramLemmas
 pub mod RevivingLemmas
+pub mod RewritingLemmas
 pub mod SentLemmas
 pub mod StayingLemmas
 pub mod TrimEventLemmas

@@ -1,5 +1,5 @@
 -- Sessions one after another.
-use Rattle.std.proofs.Common.{◌≡◌, ◌≢◌, ◌+◌, ◌≤◌, ◌<◌, ℕ, zero, suc, Bool, true, List, [], ◌∷◌, ◌++◌, length, refl, sym, ap, subst, ◌∙◌, inl, inr, append-nil, append_assoc, arith}
+use Rattle.std.proofs.Common.{◌≡◌, ◌≢◌, ◌+◌, ◌≤◌, ◌<◌, ℕ, zero, suc, Bool, List, [], ◌∷◌, ◌++◌, length, refl, sym, ap, subst, ◌∙◌, inl, inr, append-nil, append_assoc, arith}
 use Rattle.std.specs.Prelude.{IsErrOf, IsSome, Option, Some, None, Result, Ok, Err}
 use Rattle.host_calls.specs.Causes.{Rose}
 use Rattle.host_calls.specs.Session.{IsOutside, KeepsCounts}
@@ -30,7 +30,8 @@ one_longer [] item = refl
 one_longer (one ∷ items) item = (let longer : length (items ++ item ∷ []) ≡ length items + 1 = one_longer items item in omega arith)
 
 -- the rest before the session of a place
-pub rests_later : (place : ℕ) (tells : Bool) (old new : ClockAt) → place ≢ 0 → Rests tells rest_seconds old new → RestsOn tells (rest_before place) old new
+pub rests_later : (place : ℕ) (tells : Bool) (old new : ClockAt) → place ≢ 0 → Rests tells rest_seconds old new
+    → RestsOn tells (rest_before place) old new
 rests_later zero tells old new some rests = absurd (some refl)
 rests_later (suc place) tells old new some rests = rests
 
@@ -66,7 +67,8 @@ pub record Keeps (first last : WorkAt PostSpool) : Type 0 where
   pub said : first.said.faults ≤ last.said.faults
   pub readers : last.clock.readers ≡ first.clock.readers
 
-pub keeps_none : (first : WorkAt PostSpool) → IsOutside first.spool.session → AreChildren first.spool.session.children first.spool.post.kids → Keeps first first
+pub keeps_none : (first : WorkAt PostSpool) → IsOutside first.spool.session
+    → AreChildren first.spool.session.children first.spool.post.kids → Keeps first first
 keeps_none first outside children = record {
   outside = outside;
   children = children;
@@ -88,10 +90,12 @@ keeps_more tells item items first last rested after keeps rests session = record
   said = (let before : first.said.faults ≤ last.said.faults = keeps.said in
       let later : last.said.faults ≤ after.said.faults =
       subst (λ (said : SinkAt). said.faults ≤ after.said.faults) rests.said session.says.later in omega arith);
-  readers = ap (λ (at : ClockAt). at.readers) session.clock ∙ rested_readers tells.clock (rest_after_sessions items) last.clock rested.clock rests.clock ∙ keeps.readers;
+  readers = ap (λ (at : ClockAt). at.readers) session.clock
+      ∙ rested_readers tells.clock (rest_after_sessions items) last.clock rested.clock rests.clock ∙ keeps.readers;
 }
 
-module _ (tells : Telling) (first : WorkAt PostSpool) (outside : IsOutside first.spool.session) (children : AreChildren first.spool.session.children first.spool.post.kids) where
+module _ (tells : Telling) (first : WorkAt PostSpool) (outside : IsOutside first.spool.session)
+    (children : AreChildren first.spool.session.children first.spool.post.kids) where
   pub keeps_all : (items : List PostItem) (last : WorkAt PostSpool) → MakesMailSessions tells first items last → Keeps first last
   keeps_all _ _ no_session = keeps_none first outside children
   keeps_all _ _ (next_session before item last rested after makes goes_on rests session) =
@@ -99,7 +103,8 @@ module _ (tells : Telling) (first : WorkAt PostSpool) (outside : IsOutside first
 
 -- Why the program comes to a failed output.
 
-outcome_rose : (end : TurnEnd) (said : Result (Unit {0}) SinkFault) (old new : SinkAt) → (IsErrOf said put.Failed → Rose old.faults new.faults)
+outcome_rose : (end : TurnEnd) (said : Result (Unit {0}) SinkFault) (old new : SinkAt)
+    → (IsErrOf said put.Failed → Rose old.faults new.faults)
     → session_outcome end said ≡ Some (Own cause.OutputFault) → Rose old.faults new.faults
 outcome_rose end (Err put.Failed) old new failed comes = failed refl
 outcome_rose Done (Ok done) old new failed comes = absurd (cc)
@@ -113,8 +118,10 @@ outcome_rose FileFault (Err put.Memory) old new failed comes = absurd (cc)
 outcome_rose (Damaged damage) (Err put.Memory) old new failed comes = absurd (cc)
 outcome_rose Memory (Err put.Memory) old new failed comes = absurd (cc)
 
-pub output_rose : (tells : Telling) (items : List PostItem) (first last : WorkAt PostSpool) → MakesMailSessions tells first items last → IsOutside first.spool.session
-    → AreChildren first.spool.session.children first.spool.post.kids → last_session_outcome items ≡ Some (Own cause.OutputFault) → Rose first.said.faults last.said.faults
+pub output_rose : (tells : Telling) (items : List PostItem) (first last : WorkAt PostSpool) → MakesMailSessions tells first items last
+    → IsOutside first.spool.session
+    → AreChildren first.spool.session.children first.spool.post.kids → last_session_outcome items ≡ Some (Own cause.OutputFault)
+    → Rose first.said.faults last.said.faults
 output_rose tells _ first _ no_session outside children comes = absurd (cc)
 output_rose tells _ first _ (next_session before item last rested after makes goes_on rests session) outside children comes =
     let keeps = keeps_all tells first outside children before last makes in
@@ -126,13 +133,16 @@ output_rose tells _ first _ (next_session before item last rested after makes go
 
 -- One more session.
 
-module _ (tells : Telling) (items : List PostItem) (first last rested after : WorkAt PostSpool) (makes : MakesMailSessions tells first items last)
-    (goes_on : last_session_outcome items ≡ None) (rests : RestsBefore tells.clock (rest_after_sessions items) last rested) (item : PostItem) (session : IsSession tells item rested after) where
+module _ (tells : Telling) (items : List PostItem) (first last rested after : WorkAt PostSpool)
+    (makes : MakesMailSessions tells first items last)
+    (goes_on : last_session_outcome items ≡ None) (rests : RestsBefore tells.clock (rest_after_sessions items) last rested)
+    (item : PostItem) (session : IsSession tells item rested after) where
   pub makes_more : MakesMailSessions tells first (items ++ item ∷ []) after
   makes_more = next_session items item last rested after makes goes_on rests session
 
   -- it ended the program
-  pub ended_at : (turns : ℕ) (outcome : MailOutcome) → length items < turns → Some outcome ≡ session_outcome item.end item.said → HasMade tells turns first after outcome
+  pub ended_at : (turns : ℕ) (outcome : MailOutcome) → length items < turns → Some outcome ≡ session_outcome item.end item.said
+      → HasMade tells turns first after outcome
   ended_at turns outcome few comes = record {
     items = items ++ item ∷ [];
     few = (let longer : length (items ++ item ∷ []) ≡ length items + 1 = one_longer items item in omega arith);
@@ -142,7 +152,8 @@ module _ (tells : Telling) (items : List PostItem) (first last rested after : Wo
   }
 
 -- all were made
-pub ended_made : (tells : Telling) (items : List PostItem) (turns : ℕ) (first last : WorkAt PostSpool) → MakesMailSessions tells first items last → last_session_outcome items ≡ None
+pub ended_made : (tells : Telling) (items : List PostItem) (turns : ℕ) (first last : WorkAt PostSpool)
+    → MakesMailSessions tells first items last → last_session_outcome items ≡ None
     → length items ≡ turns → HasMade tells turns first last (Own cause.Done)
 ended_made tells items turns first last makes goes_on all = record {
   items = items;

@@ -17,23 +17,28 @@ use Rattle.at_mail.proofs.StayingLemmas.{same_number}
 
 module _ (entries : JobEntries) (number : ℕ) where
   -- what is put under a number is dead, or the entry was live before
-  put_dead : (at : ℕ) (entry : JobEntry) → is_of_live (Some entry) ≡ false → is_of_live (map.get (map.insert entries at entry) number) ≡ true
+  put_dead : (at : ℕ) (entry : JobEntry) → is_of_live (Some entry) ≡ false
+      → is_of_live (map.get (map.insert entries at entry) number) ≡ true
       → is_of_live (map.get entries number) ≡ true
   put_dead at entry dead is = by_place (nat_eq number at) (sym (ap is_of_live (get-put entries at number entry)) ∙ is) where
-    by_place : (here : Bool) → is_of_live (cond here (Some entry) (map.get entries number)) ≡ true → is_of_live (map.get entries number) ≡ true
+    by_place : (here : Bool) → is_of_live (cond here (Some entry) (map.get entries number)) ≡ true
+        → is_of_live (map.get entries number) ≡ true
     by_place true lives = absurd (let impossible : true ≡ false = sym lives ∙ dead in cc)
     by_place false lives = lives
 
   -- a started job was live
-  started : (at : ℕ) (state : JobState) (held : Option JobEntry) → map.get entries at ≡ held → is_of_live (map.get (with_state at state held entries) number) ≡ true
+  started : (at : ℕ) (state : JobState) (held : Option JobEntry) → map.get entries at ≡ held
+      → is_of_live (map.get (with_state at state held entries) number) ≡ true
       → is_of_live (map.get entries number) ≡ true
   started at state None held is = is
   started at state (Some (Done fate)) held is = put_dead at (Done fate) refl is
-  started at state (Some (Live job before)) held is = by_place (nat_eq number at) refl (sym (ap is_of_live (get-put entries at number (Live job state))) ∙ is) where
-    by_place : (here : Bool) → nat_eq number at ≡ here → is_of_live (cond here (Some (Live job state)) (map.get entries number)) ≡ true
-        → is_of_live (map.get entries number) ≡ true
-    by_place true same lives = ap (λ (one : ℕ). is_of_live (map.get entries one)) (same_number number at same) ∙ ap is_of_live held
-    by_place false same lives = lives
+  started at state (Some (Live job before)) held is =
+      by_place (nat_eq number at) refl (sym (ap is_of_live (get-put entries at number (Live job state))) ∙ is)
+    where
+      by_place : (here : Bool) → nat_eq number at ≡ here → is_of_live (cond here (Some (Live job state)) (map.get entries number)) ≡ true
+          → is_of_live (map.get entries number) ≡ true
+      by_place true same lives = ap (λ (one : ℕ). is_of_live (map.get entries one)) (same_number number at same) ∙ ap is_of_live held
+      by_place false same lives = lives
 
   -- a removed entry was live, if one is now
   forgotten : (at : ℕ) → is_of_live (map.get (map.remove entries at) number) ≡ true → is_of_live (map.get entries number) ≡ true
@@ -56,8 +61,10 @@ abbrev pub MayLive : Bool → JobTable → ℕ → Type 0
 MayLive drawn table number = (is_live_in table number ≡ true) ⊎ ((table.last < number) ⊎ ((drawn ≡ true) × (number ≡ table.last)))
 
 -- a step that draws and accepts nothing
-quiet : (table : JobTable) (entries : JobEntries) (number : ℕ) (drawn : Bool) → (is_of_live (map.get entries number) ≡ true → is_live_in table number ≡ true)
-    → (is_of_live (map.get entries number) ≡ true) ⊎ ((table.last < number) ⊎ ((false ≡ true) × (number ≡ table.last))) → MayLive drawn table number
+quiet : (table : JobTable) (entries : JobEntries) (number : ℕ) (drawn : Bool)
+    → (is_of_live (map.get entries number) ≡ true → is_live_in table number ≡ true)
+    → (is_of_live (map.get entries number) ≡ true) ⊎ ((table.last < number) ⊎ ((false ≡ true) × (number ≡ table.last)))
+    → MayLive drawn table number
 quiet table entries number drawn was (inl lives) = inl (was lives)
 quiet table entries number drawn was (inr (inl new)) = inr (inl new)
 quiet table entries number drawn was (inr (inr never)) = absurd (let impossible : false ≡ true = never.0 in cc)
@@ -67,7 +74,8 @@ drawn_now table number drawn (inl lives) = inl lives
 drawn_now table number drawn (inr (inl new)) = inr (inl (omega (arith, new)))
 drawn_now table number drawn (inr (inr at)) = inr (inl (omega (arith, at.1)))
 
-accepted_now : (table : JobTable) (number at : ℕ) (job : Job) (drawn : Bool) → at ≡ table.last → drawn ≡ true → MayLive false (after_step table (Accept at job)) number
+accepted_now : (table : JobTable) (number at : ℕ) (job : Job) (drawn : Bool) → at ≡ table.last → drawn ≡ true
+    → MayLive false (after_step table (Accept at job)) number
     → MayLive drawn table number
 accepted_now table number at job drawn last was (inl lives) = elim (accepted table.entries number at job lives) [
   | inl lived ↦ inl lived
@@ -82,12 +90,14 @@ may_live [] drawn table number legal follow is = inl is
 may_live (Draw ∷ later) drawn table number legal follow is =
     drawn_now table number drawn (may_live later true (after_step table Draw) number legal.1 follow is)
 may_live (Accept at job ∷ later) drawn table number legal follow is =
-    accepted_now table number at job drawn legal.0.last follow.0 (may_live later false (after_step table (Accept at job)) number legal.1 follow.1 is)
+    accepted_now table number at job drawn legal.0.last follow.0
+    (may_live later false (after_step table (Accept at job)) number legal.1 follow.1 is)
 may_live (Remove at ∷ later) drawn table number legal follow is =
     quiet table (entries_after table.entries (Remove at)) number drawn (put_dead table.entries number at (Done Removed) refl)
     (may_live later false (after_step table (Remove at)) number legal.1 follow is)
 may_live (Start at second ∷ later) drawn table number legal follow is =
-    quiet table (entries_after table.entries (Start at second)) number drawn (started table.entries number at (Running second) (map.get table.entries at) refl)
+    quiet table (entries_after table.entries (Start at second)) number drawn
+    (started table.entries number at (Running second) (map.get table.entries at) refl)
     (may_live later false (after_step table (Start at second)) number legal.1 follow is)
 may_live (End at ending ∷ later) drawn table number legal follow is =
     quiet table (entries_after table.entries (End at ending)) number drawn (put_dead table.entries number at (Done (Finished ending)) refl)

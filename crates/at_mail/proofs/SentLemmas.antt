@@ -48,7 +48,8 @@ either : (one other : Bool) → (one || other) ≡ true → (one ≡ true) ⊎ (
 either true other is = inl refl
 either false other is = inr is
 
-pub has_either : (number : ℕ) (first second : List ℕ) → has number (first ++ second) ≡ true → (has number first ≡ true) ⊎ (has number second ≡ true)
+pub has_either : (number : ℕ) (first second : List ℕ) → has number (first ++ second) ≡ true
+    → (has number first ≡ true) ⊎ (has number second ≡ true)
 has_either number first second is = either (has number first) (has number second) (sym (has_both number first second) ∙ is)
 
 one_is : (one other : Bool) → one ≡ true → (one || other) ≡ true
@@ -86,7 +87,8 @@ pub distinct_left : (first second : List ℕ) → are_distinct (first ++ second)
 distinct_left [] second is = refl
 distinct_left (number ∷ later) second is =
     let parts = and_parts (not (has number (later ++ second))) (are_distinct (later ++ second)) is in
-    both_distinct (has number later) (are_distinct later) (less (has number later) (has number second) (sym (ap not (has_both number later second)) ∙ parts.0))
+    both_distinct (has number later) (are_distinct later)
+    (less (has number later) (has number second) (sym (ap not (has_both number later second)) ∙ parts.0))
     (distinct_left later second parts.1) where
       less : (a b : Bool) → not (a || b) ≡ true → a ≡ false
       less true b never = cc
@@ -95,21 +97,25 @@ distinct_left (number ∷ later) second is =
 -- What was sent.
 
 pub numbers_both : (given more : List Handed) → notice_numbers (given ++ more) ≡ notice_numbers given ++ notice_numbers more
-numbers_both given more = ap (map (λ (handed : Handed). handed.number)) (filter-append is_notice given more) ∙ map-append (λ (handed : Handed). handed.number) (filter is_notice given) (filter is_notice more)
+numbers_both given more = ap (map (λ (handed : Handed). handed.number)) (filter-append is_notice given more)
+    ∙ map-append (λ (handed : Handed). handed.number) (filter is_notice given) (filter is_notice more)
 
 -- a notice has no header of a job
 pub no_header : (program : List ℕ) (job : NotedJob) (line : List ℕ) → header_in (notice_text program job line) ≡ None
 unfolding header_in has_user alike
 no_header program job line = refl
 
-notice_more : (handed : Handed) (rest : List Handed) → is_notice handed ≡ true → notice_numbers (handed ∷ rest) ≡ handed.number ∷ notice_numbers rest
+notice_more : (handed : Handed) (rest : List Handed) → is_notice handed ≡ true
+    → notice_numbers (handed ∷ rest) ≡ handed.number ∷ notice_numbers rest
 notice_more handed rest is = rw is refl
 
 is_one : (of : Mailing) (number : ℕ) (handed : Handed) → IsNoticeOf of number handed.script → is_notice handed ≡ true
 is_one of number handed notice =
-    ap (λ (script : List ℕ). is_none (header_in script)) notice.script_is ∙ ap is_none (no_header of.program notice.job (turn_text notice.end))
+    ap (λ (script : List ℕ). is_none (header_in script)) notice.script_is
+    ∙ ap is_none (no_header of.program notice.job (turn_text notice.end))
 
-pub hands_numbers : (of : Mailing) (notes : List Note) (given : List Handed) → SendsNotices of notes given → notice_numbers given ≡ sent_numbers notes
+pub hands_numbers : (of : Mailing) (notes : List Note) (given : List Handed) → SendsNotices of notes given
+    → notice_numbers given ≡ sent_numbers notes
 hands_numbers of [] given is = ap notice_numbers is
 hands_numbers of (Sent number ∷ later) given (first, rest, one, others, is) =
     ap notice_numbers (is ∙ ap (λ (some : List Handed). some ++ rest) one.2)
@@ -131,8 +137,11 @@ sent_both (Dropped number ∷ later) second = sent_both later second
 pub by_now_numbers : (of : Mailing) (notes : List Note) (image : Files) (given : List Handed) → SendsNoticesByNow of notes image given
     → (more : List ℕ) × (sent_numbers notes ≡ notice_numbers given ++ more)
 by_now_numbers of notes image given (inl hands) = ([], sym (append-nil (notice_numbers given) ∙ hands_numbers of notes given hands))
-by_now_numbers of notes image given (inr lacks) =
-    (lacks.number ∷ [], ap sent_numbers lacks.ends ∙ sent_both lacks.earlier (Sent lacks.number ∷ []) ∙ ap (λ (numbers : List ℕ). numbers ++ lacks.number ∷ []) (sym (hands_numbers of lacks.earlier given lacks.hands)))
+by_now_numbers of notes image given (inr lacks) = (
+  lacks.number ∷ [],
+  ap sent_numbers lacks.ends ∙ sent_both lacks.earlier (Sent lacks.number ∷ [])
+      ∙ ap (λ (numbers : List ℕ). numbers ++ lacks.number ∷ []) (sym (hands_numbers of lacks.earlier given lacks.hands)),
+)
 
 -- a number whose notice was sent is closed
 closed_of_sent : (number : ℕ) (notes : List Note) → has number (sent_numbers notes) ≡ true → has_closing_note number notes ≡ true
@@ -141,18 +150,23 @@ closed_of_sent number (Sent one ∷ later) is = elim (either (one == number) (ha
   | inl same ↦ one_is ((one == number) && true) (has_closing_note number later) (rw same refl)
   | inr rest ↦ other_is ((one == number) && true) (has_closing_note number later) (closed_of_sent number later rest)
 ]
-closed_of_sent number (Noted job ∷ later) is = other_is ((job.number == number) && false) (has_closing_note number later) (closed_of_sent number later is)
-closed_of_sent number (Dropped one ∷ later) is = other_is ((one == number) && true) (has_closing_note number later) (closed_of_sent number later is)
+closed_of_sent number (Noted job ∷ later) is =
+    other_is ((job.number == number) && false) (has_closing_note number later) (closed_of_sent number later is)
+closed_of_sent number (Dropped one ∷ later) is =
+    other_is ((one == number) && true) (has_closing_note number later) (closed_of_sent number later is)
 
-pub sent_closed : (number : ℕ) (before notes : List Note) → has number (sent_numbers notes) ≡ true → has_closing_note number (before ++ notes) ≡ true
+pub sent_closed : (number : ℕ) (before notes : List Note) → has number (sent_numbers notes) ≡ true
+    → has_closing_note number (before ++ notes) ≡ true
 sent_closed number before notes is =
     list_any-append (λ note. is_note_of number note && is_closing_note note) before notes
     ∙ other_is (has_closing_note number before) (has_closing_note number notes) (closed_of_sent number notes is)
 
 -- and so it stays
-pub closed_more : (number : ℕ) (notes later : List Note) → has_closing_note number notes ≡ true → has_closing_note number (notes ++ later) ≡ true
+pub closed_more : (number : ℕ) (notes later : List Note) → has_closing_note number notes ≡ true
+    → has_closing_note number (notes ++ later) ≡ true
 closed_more number notes later is =
-    list_any-append (λ note. is_note_of number note && is_closing_note note) notes later ∙ one_is (has_closing_note number notes) (has_closing_note number later) is
+    list_any-append (λ note. is_note_of number note && is_closing_note note) notes later
+    ∙ one_is (has_closing_note number notes) (has_closing_note number later) is
 
 -- a number whose notice was sent is named
 pub named_of_sent : (number : ℕ) (notes : List Note) → has number (sent_numbers notes) ≡ true → has_note_of number notes ≡ true
@@ -173,11 +187,15 @@ not_one false other is = refl
 
 -- a number that neither of two lists of notes names, and one that both don't
 
-pub unnamed_both : (number : ℕ) (first second : List Note) → has_note_of number first ≡ false → has_note_of number second ≡ false → has_note_of number (first ++ second) ≡ false
-unnamed_both number first second one two = list_any-append (is_note_of number) first second ∙ neither (has_note_of number first) (has_note_of number second) one two
+pub unnamed_both : (number : ℕ) (first second : List Note) → has_note_of number first ≡ false → has_note_of number second ≡ false
+    → has_note_of number (first ++ second) ≡ false
+unnamed_both number first second one two = list_any-append (is_note_of number) first second
+    ∙ neither (has_note_of number first) (has_note_of number second) one two
 
-pub unnamed_first : (number : ℕ) (first second : List Note) → has_note_of number (first ++ second) ≡ false → has_note_of number first ≡ false
-unnamed_first number first second is = not_one (has_note_of number first) (has_note_of number second) (sym (list_any-append (is_note_of number) first second) ∙ is)
+pub unnamed_first : (number : ℕ) (first second : List Note) → has_note_of number (first ++ second) ≡ false
+    → has_note_of number first ≡ false
+unnamed_first number first second is =
+    not_one (has_note_of number first) (has_note_of number second) (sym (list_any-append (is_note_of number) first second) ∙ is)
 
 -- What is due.
 
@@ -189,7 +207,8 @@ abbrev pub sents_in : JobTable → List NotedJob → List ℕ
 sents_in table jobs = sent_numbers (notes_of (dues_in table jobs))
 
 -- a job has a notice, or none
-sent_step : (job : NotedJob) (held : Option JobEntry) (rest : List NoticeDue) → (sent_numbers (notes_of (cons_option (due_of_entry job held) rest)) ≡ sent_numbers (notes_of rest))
+sent_step : (job : NotedJob) (held : Option JobEntry) (rest : List NoticeDue)
+    → (sent_numbers (notes_of (cons_option (due_of_entry job held) rest)) ≡ sent_numbers (notes_of rest))
     ⊎ (sent_numbers (notes_of (cons_option (due_of_entry job held) rest)) ≡ job.number ∷ sent_numbers (notes_of rest))
 sent_step job None rest = inl refl
 sent_step job (Some (Live live state)) rest = inl refl
@@ -197,7 +216,8 @@ sent_step job (Some (Done (Finished ending))) rest = inr refl
 sent_step job (Some (Done Interrupted)) rest = inr refl
 sent_step job (Some (Done Removed)) rest = inl refl
 
-pub each_sent : (P : ℕ → Type 0) (table : JobTable) (jobs : List NotedJob) → All (λ job. P job.number) jobs → (number : ℕ) → has number (sents_in table jobs) ≡ true → P number
+pub each_sent : (P : ℕ → Type 0) (table : JobTable) (jobs : List NotedJob) → All (λ job. P job.number) jobs → (number : ℕ)
+    → has number (sents_in table jobs) ≡ true → P number
 each_sent P table [] all number is = absurd (let no : false ≡ true = is in cc)
 each_sent P table (job ∷ later) all number is =
     let rest = each_sent P table later (All-tail (λ one. P one.number) job later all) number in
@@ -221,14 +241,16 @@ below number numbers all = by_case (has number numbers) refl where
   by_case true is = absurd (let less : number < number = all number is in omega arith)
   by_case false is = is
 
-pub distinct_sents : (table : JobTable) (jobs : List NotedJob) → AllPairs (λ one other. one.number < other.number) jobs → are_distinct (sents_in table jobs) ≡ true
+pub distinct_sents : (table : JobTable) (jobs : List NotedJob) → AllPairs (λ one other. one.number < other.number) jobs
+    → are_distinct (sents_in table jobs) ≡ true
 distinct_sents table [] rise = refl
 distinct_sents table (job ∷ later) rise =
     let rest = distinct_sents table later (pairs_tail (λ one other. one.number < other.number) job later rise) in
     elim (sent_step job (entry_at table job.number) (dues_in table later)) [
       | inl same ↦ ap are_distinct same ∙ rest
       | inr more ↦ ap are_distinct more ∙ both_distinct (has job.number (sents_in table later)) (are_distinct (sents_in table later))
-          (below job.number (sents_in table later) (each_sent (λ number. job.number < number) table later (pairs_head (λ one other. one.number < other.number) job later rise))) rest
+          (below job.number (sents_in table later)
+          (each_sent (λ number. job.number < number) table later (pairs_head (λ one other. one.number < other.number) job later rise))) rest
     ]
 
 noting_none : (new_jobs : List NotedJob) → sent_numbers (noting_of new_jobs) ≡ []
@@ -239,7 +261,8 @@ module _ (files : Files) (table : JobTable) (notes steps : List Note) (are : Are
   steps_sent : sent_numbers steps ≡ sents_in table are.due.jobs
   steps_sent =
       ap sent_numbers are.all ∙ sent_both (noting_of are.new_jobs) (notes_of are.due_notices)
-      ∙ ap (λ (numbers : List ℕ). numbers ++ sent_numbers (notes_of are.due_notices)) (noting_none are.new_jobs) ∙ ap (λ (due_notices : List NoticeDue). sent_numbers (notes_of due_notices)) are.due.dues_are
+      ∙ ap (λ (numbers : List ℕ). numbers ++ sent_numbers (notes_of are.due_notices)) (noting_none are.new_jobs)
+      ∙ ap (λ (due_notices : List NoticeDue). sent_numbers (notes_of due_notices)) are.due.dues_are
 
   -- the numbers whose notices a session sends occurs once each
   pub steps_distinct : are_distinct (sent_numbers steps) ≡ true
@@ -249,7 +272,8 @@ module _ (files : Files) (table : JobTable) (notes steps : List Note) (are : Are
   pub steps_open : (number : ℕ) → has number (sent_numbers steps) ≡ true → has_closing_note number notes ≡ false
   steps_open number is =
       each_sent (λ one. has_closing_note one notes ≡ false) table are.due.jobs
-      (All-weaker (Contains are.due.jobs) (λ job. has_closing_note job.number notes ≡ false) (λ job has. (are.due.waiting.each job has).open_yet) are.due.jobs (All-contains_itself are.due.jobs))
+      (All-weaker (Contains are.due.jobs) (λ job. has_closing_note job.number notes ≡ false)
+      (λ job has. (are.due.waiting.each job has).open_yet) are.due.jobs (All-contains_itself are.due.jobs))
       number (sym (ap (has number) steps_sent) ∙ is)
 
 -- The text of the notes.
@@ -284,7 +308,8 @@ spelled_text (note ∷ later) are =
         record {
           line = can.line;
           whole = can.whole;
-          parted = append_assoc (note_text note) (10 ∷ []) (notes_text later) ∙ ap (λ (line : List ℕ). line ++ 10 ∷ notes_text later) (sym can.spelled.is);
+          parted = append_assoc (note_text note) (10 ∷ []) (notes_text later)
+              ∙ ap (λ (line : List ℕ). line ++ 10 ∷ notes_text later) (sym can.spelled.is);
           spelled = can.spelled;
         },
         spelled_text later are.1,
@@ -306,7 +331,8 @@ one_reading (Some bytes) one other first second = one_list SpellsNote one_note_a
 
 pub holds_spelled : (content : Option (List ℕ)) (notes : List Note) → AreNotes notes → HoldsNotes content notes → GivesSpelled content notes
 holds_spelled None notes are holds = holds
-holds_spelled (Some bytes) notes are holds = subst (λ (text : List ℕ). AreSpelled SpellsNote text notes) (sym holds) (spelled_text notes are)
+holds_spelled (Some bytes) notes are holds =
+    subst (λ (text : List ℕ). AreSpelled SpellsNote text notes) (sym holds) (spelled_text notes are)
 
 pub given_notes : (content : Option (List ℕ)) (notes : List Note) → GivesSpelled content notes → AreNotes notes
 given_notes None notes gives = subst AreNotes (sym gives) tt
@@ -333,12 +359,16 @@ noted_is files table job from = (
   },
 )
 
-noting_are : (files : Files) (table : JobTable) (new_jobs : List NotedJob) → All (IsNotedFrom files table) new_jobs → AreNotes (noting_of new_jobs)
+pub noting_are : (files : Files) (table : JobTable) (new_jobs : List NotedJob) → All (IsNotedFrom files table) new_jobs
+    → AreNotes (noting_of new_jobs)
 noting_are files table [] all = tt
-noting_are files table (job ∷ later) all =
-    (noted_is files table job (All-head (IsNotedFrom files table) job later all), noting_are files table later (All-tail (IsNotedFrom files table) job later all))
+noting_are files table (job ∷ later) all = (
+  noted_is files table job (All-head (IsNotedFrom files table) job later all),
+  noting_are files table later (All-tail (IsNotedFrom files table) job later all),
+)
 
-due_step : (job : NotedJob) → Fits job.number → (held : Option JobEntry) (rest : List NoticeDue) → AreNotes (notes_of rest) → AreNotes (notes_of (cons_option (due_of_entry job held) rest))
+due_step : (job : NotedJob) → Fits job.number → (held : Option JobEntry) (rest : List NoticeDue) → AreNotes (notes_of rest)
+    → AreNotes (notes_of (cons_option (due_of_entry job held) rest))
 due_step job fits None rest are = (fits, are)
 due_step job fits (Some (Live live state)) rest are = are
 due_step job fits (Some (Done (Finished ending))) rest are = (fits, are)
@@ -348,13 +378,17 @@ due_step job fits (Some (Done Removed)) rest are = (fits, are)
 dues_are : (table : JobTable) (jobs : List NotedJob) → All (λ job. Fits job.number) jobs → AreNotes (notes_of (dues_in table jobs))
 dues_are table [] all = tt
 dues_are table (job ∷ later) all =
-    due_step job (All-head (λ one. Fits one.number) job later all) (entry_at table job.number) (dues_in table later) (dues_are table later (All-tail (λ one. Fits one.number) job later all))
+    due_step job (All-head (λ one. Fits one.number) job later all) (entry_at table job.number) (dues_in table later)
+    (dues_are table later (All-tail (λ one. Fits one.number) job later all))
 
 -- the steps of a session can be in lines, where the notes before them do
-pub steps_are : (files : Files) (table : JobTable) (notes steps : List Note) → AreMailSteps files table notes steps → AreNotes notes → AreNotes steps
+pub steps_are : (files : Files) (table : JobTable) (notes steps : List Note) → AreMailSteps files table notes steps
+    → AreNotes notes → AreNotes steps
 steps_are files table notes steps are before = subst AreNotes (sym are.all)
     (notes_both (noting_of are.new_jobs) (notes_of are.due_notices)
-    (noting_are files table are.new_jobs (All-weaker (Contains are.new_jobs) (IsNotedFrom files table) are.each are.new_jobs (All-contains_itself are.new_jobs)))
+    (noting_are files table are.new_jobs
+    (All-weaker (Contains are.new_jobs) (IsNotedFrom files table) are.each are.new_jobs (All-contains_itself are.new_jobs)))
     (subst (λ (due_notices : List NoticeDue). AreNotes (notes_of due_notices)) (sym are.due.dues_are)
     (dues_are table are.due.jobs (All-weaker (Contains are.due.jobs) (λ job. Fits job.number)
-    (λ job has. (All-contains IsNote notes (Noted job) (notes_all notes before) (are.due.waiting.each job has).noted).0) are.due.jobs (All-contains_itself are.due.jobs)))))
+    (λ job has. (All-contains IsNote notes (Noted job) (notes_all notes before) (are.due.waiting.each job has).noted).0) are.due.jobs
+    (All-contains_itself are.due.jobs)))))

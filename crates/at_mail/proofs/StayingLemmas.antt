@@ -65,7 +65,8 @@ module _ (table : JobTable) (notes : List Note) where
       → list_any test (trimmed table notes) ≡ list_any test notes
   any_stays number test of is = any_kept test (stays table notes) notes (λ note passes. stays_by number note (of note passes) ∙ is)
 
-  none_stays : (number : ℕ) (test : Note → Bool) → ((note : Note) → test note ≡ true → is_note_of number note ≡ true) → staying number ≡ false
+  none_stays : (number : ℕ) (test : Note → Bool) → ((note : Note) → test note ≡ true → is_note_of number note ≡ true)
+      → staying number ≡ false
       → list_any test (trimmed table notes) ≡ false
   none_stays number test of is = none_kept test (stays table notes) notes (λ note passes. stays_by number note (of note passes) ∙ is)
 
@@ -105,10 +106,12 @@ module _ (table : JobTable) (notes : List Note) where
   waits_alike : (number : ℕ) → awaits_notice number (trimmed table notes) ≡ awaits_notice number notes
   waits_alike number = waits_if number (staying number) refl
 
-  waiting_if : (number : ℕ) (job : NotedJob) (stay : Bool) → staying number ≡ stay → IsWaiting (trimmed table notes) number job → IsWaiting notes number job
+  waiting_if : (number : ℕ) (job : NotedJob) (stay : Bool) → staying number ≡ stay → IsWaiting (trimmed table notes) number job
+      → IsWaiting notes number job
   waiting_if number job true stay is = record {
     number_is = is.number_is;
-    noted = contained notes (Noted job) (filtered_has (stays table notes) notes (Noted job) (has_contained (trimmed table notes) (Noted job) is.noted)).0;
+    noted = contained notes (Noted job)
+        (filtered_has (stays table notes) notes (Noted job) (has_contained (trimmed table notes) (Noted job) is.noted)).0;
     is_noted = sym (noted_stays number stay) ∙ is.is_noted;
     open_yet = sym (closed_stays number stay) ∙ is.open_yet;
   }
@@ -120,7 +123,8 @@ module _ (table : JobTable) (notes : List Note) where
       let kept : stays table notes (Noted job) ≡ true = ap staying is.number_is ∙ stay in
       record {
         number_is = is.number_is;
-        noted = contained (trimmed table notes) (Noted job) (has_filtered (stays table notes) notes (Noted job) (has_contained notes (Noted job) is.noted) kept);
+        noted = contained (trimmed table notes) (Noted job)
+            (has_filtered (stays table notes) notes (Noted job) (has_contained notes (Noted job) is.noted) kept);
         is_noted = noted_stays number stay ∙ is.is_noted;
         open_yet = closed_stays number stay ∙ is.open_yet;
       }
@@ -141,7 +145,8 @@ module _ (table : JobTable) (notes : List Note) where
 
   -- Jobs that are new.
   module _ (later : JobTable) (again : NoJobLivesAgain table later) where
-    named_if : (number : ℕ) → is_live_in later number ≡ true → (stay : Bool) → staying number ≡ stay → has_note_of number (trimmed table notes) ≡ has_note_of number notes
+    named_if : (number : ℕ) → is_live_in later number ≡ true → (stay : Bool) → staying number ≡ stay
+        → has_note_of number (trimmed table notes) ≡ has_note_of number notes
     named_if number lives true stay = named_stays number stay
     named_if number lives false gone =
         let over = and_parts (nat_le number table.last) (not (is_live_in table number)) (gone_over number gone) in
@@ -160,7 +165,8 @@ module _ (table : JobTable) (notes : List Note) where
         filter_alike (is_new (trimmed table notes)) (is_new notes) (map (λ (row : Row). row.number) (live_rows later))
         (λ number has. ap not (named_if number (live_number number has) (staying number) refl))
 
-    steps_before : (steps : List Note) (files : Files) → AreMailSteps files later (trimmed table notes) steps → AreMailSteps files later notes steps
+    steps_before : (steps : List Note) (files : Files) → AreMailSteps files later (trimmed table notes) steps
+        → AreMailSteps files later notes steps
     steps_before steps files are = record {
       new_jobs = are.new_jobs;
       due_notices = are.due_notices;
@@ -170,7 +176,8 @@ module _ (table : JobTable) (notes : List Note) where
       all = are.all;
     }
 
-    steps_after : (steps : List Note) (files : Files) → AreMailSteps files later notes steps → AreMailSteps files later (trimmed table notes) steps
+    steps_after : (steps : List Note) (files : Files) → AreMailSteps files later notes steps
+        → AreMailSteps files later (trimmed table notes) steps
     steps_after steps files are = record {
       new_jobs = are.new_jobs;
       due_notices = are.due_notices;
@@ -193,7 +200,8 @@ same_live (Some (Done fate)) = refl
 
 live_alike : (kept table : JobTable) (number : ℕ) → kept ≡ without_scripts table → is_live_in kept number ≡ is_live_in table number
 live_alike kept table number is =
-    ap (λ (of : JobTable). is_live_in of number) is ∙ ap is_of_live (entries_are_without_scripts table number) ∙ same_live (entry_at table number)
+    ap (λ (of : JobTable). is_live_in of number) is ∙ ap is_of_live (entries_are_without_scripts table number)
+    ∙ same_live (entry_at table number)
 
 last_alike : (table : JobTable) → (without_scripts table).last ≡ table.last
 unfolding without_scripts
@@ -207,4 +215,5 @@ over_alike kept table number is =
 pub trimmed_alike : (kept table : JobTable) (notes : List Note) → kept ≡ without_scripts table → trimmed kept notes ≡ trimmed table notes
 trimmed_alike kept table notes is =
     filter_alike (stays kept notes) (stays table notes) notes
-    (λ note has. ap (λ over. not (has_closing_note (number_of_note note) notes) || not over) (over_alike kept table (number_of_note note) is))
+    (λ note has.
+    ap (λ over. not (has_closing_note (number_of_note note) notes) || not over) (over_alike kept table (number_of_note note) is))

@@ -16,14 +16,16 @@ use Rattle.spool_shows.proofs.Membership.{Has}
 use Rattle.step_runs.proofs.ApartLemmas.{all_each}
 use Rattle.mail_notes.specs.declared.note.Note.{Note}
 use Rattle.mail_notes.specs.Names.{mail_file}
-use Rattle.at_mail.specs.Once.{HasWholeNotes, a_session, notice_numbers}
-use Rattle.at_mail.proofs.OnceLemmas.{IsOnce, IsShut, KeepsOnce, LeavesRetired, beside_keeps, crash_keeps, event_keeps, once_since, untouched, whole_once}
+use Rattle.at_mail.specs.Once.{HasWholeNotes, notice_numbers}
+use Rattle.at_mail.proofs.OnceBase.{IsOnce, IsShut, KeepsOnce, untouched}
+use Rattle.at_mail.proofs.OnceLemmas.{LeavesRetired, NotesNoRetired, beside_keeps, crash_keeps, event_keeps, once_since, whole_once}
 use Rattle.at_mail.proofs.SentLemmas.{AreNotes, given_notes, gives_spelled, has, holds_spelled, one_reading}
-use Rattle.at_mail.specs.Events.{NoneLivesAgain, NoticesAreHandedOnceWithTrims, TrimEvents, after_another, after_session, after_trim, crash_of_another, crash_of_session, crash_of_trim, no_event}
-use Rattle.at_mail.specs.TrimOutcome.{HoldsEither, IsTrimming}
+use Rattle.at_mail.specs.Events.{NoneLivesAgain, NoticesAreHandedOnceWithTrims, TrimEvents, after_another, after_mail, after_trim, crash_of_another, crash_of_mail, crash_of_trim, no_event}
+use Rattle.at_mail.specs.Rewriting.{HoldsEither}
+use Rattle.at_mail.specs.TrimOutcome.{IsTrimming}
 use Rattle.at_mail.specs.TrimmedNotes.{is_live_in, is_over, stays, trimmed}
 use Rattle.at_mail.proofs.StayingLemmas.{closed_stays, drawn, gone_over, named_gone, named_stays, not_live, staying}
-use Rattle.at_mail.proofs.NamedLemmas.{steps_name_none}
+use Rattle.at_mail.proofs.NamedLemmas.{news_name_none, steps_name_none}
 
 -- the job of the number is over in one of the tables by which trims dropped notes
 pub record IsRetired (tables : List JobTable) (number : ℕ) : Type 0 where
@@ -36,7 +38,8 @@ retired_later : (tables : List JobTable) (table : JobTable) (number : ℕ) → I
 retired_later tables table number is = record { table = is.table; was = inr is.was; over = is.over }
 
 -- it does not live where a later session begins
-retired_dead : (tables : List JobTable) (before : World) (number : ℕ) (later : JobTable) → All (λ table. NoneLivesAgain table before) tables → IsRetired tables number
+retired_dead : (tables : List JobTable) (before : World) (number : ℕ) (later : JobTable) → All (λ table. NoneLivesAgain table before) tables
+    → IsRetired tables number
     → Shows (reading before) later → is_live_in later number ≡ false
 retired_dead tables before number later none is shown = by_case (is_live_in later number) refl where
   over_parts : (nat_le number is.table.last ≡ true) × (not (is_live_in is.table number) ≡ true)
@@ -50,12 +53,20 @@ retired_dead tables before number later none is shown = by_case (is_live_in late
   by_case false dead = dead
 
 -- so a session notes nothing of it
-sessions_leave : (tables : List JobTable) (before after : World) → All (λ table. NoneLivesAgain table before) tables → LeavesRetired (IsRetired tables) before after
+sessions_leave : (tables : List JobTable) (before after : World) → All (λ table. NoneLivesAgain table before) tables
+    → LeavesRetired (IsRetired tables) before after
 sessions_leave tables before after none number is table notes steps read unnamed =
     steps_name_none _ table notes steps read.are number (retired_dead tables before number table none is read.shown) unnamed
 
+notings_leave : (tables : List JobTable) (before after : World) → All (λ table. NoneLivesAgain table before) tables
+    → NotesNoRetired (IsRetired tables) before after
+notings_leave tables before after none number gone is unnamed =
+    news_name_none is.table is.notes is.new_jobs is.are_new.numbers number
+    (retired_dead tables before number is.table none gone is.writing.shown)
+
 -- another table retires more numbers
-once_later : (tables : List JobTable) (table : JobTable) (opening : List Handed) (image : Files) (handed : List Handed) → IsOnce (IsRetired tables) opening image handed
+once_later : (tables : List JobTable) (table : JobTable) (opening : List Handed) (image : Files) (handed : List Handed)
+    → IsOnce (IsRetired tables) opening image handed
     → IsOnce (IsRetired (table ∷ tables)) opening image handed
 once_later tables table opening image handed is = record {
   given = is.given;
@@ -88,7 +99,8 @@ module _ (tables : List JobTable) (opening : List Handed) (old new : World) (inv
   base = inv (reading old) (reading_is_image old.now.directory)
 
   same_notes : base.notes ≡ notes
-  same_notes = one_reading (finite.get (reading old) mail_file) base.notes notes base.gives (gives_spelled (finite.get (reading old) mail_file) notes is.gives)
+  same_notes = one_reading (finite.get (reading old) mail_file) base.notes notes base.gives
+      (gives_spelled (finite.get (reading old) mail_file) notes is.gives)
 
   are : AreNotes notes
   are = subst AreNotes same_notes (given_notes (finite.get (reading old) mail_file) base.notes base.gives)
@@ -109,7 +121,8 @@ module _ (tables : List JobTable) (opening : List Handed) (old new : World) (inv
   kept_shut number false gone shut =
       inr (named_gone table notes number gone, record { table = table; was = inl refl; over = gone_over table notes number gone })
 
-  trimmed_once : (image : Files) (handed : List Handed) → HoldsEither table notes is.opened.now image handed → IsOnce (IsRetired (table ∷ tables)) opening image handed
+  trimmed_once : (image : Files) (handed : List Handed) → HoldsEither table notes (trimmed table notes) is.opened.now image handed
+      → IsOnce (IsRetired (table ∷ tables)) opening image handed
   trimmed_once image handed holds = elim holds.holds [
     | inl all ↦ record {
       given = base.given;
@@ -130,29 +143,32 @@ module _ (tables : List JobTable) (opening : List Handed) (old new : World) (inv
   ]
 
   opened_once : HasEachImage (IsOnce (IsRetired (table ∷ tables)) opening) is.opened.now
-  opened_once image of = untouched (IsRetired (table ∷ tables)) opening old is.opened later image is.opened.now.handed (is.is_opened.now image of)
+  opened_once image of =
+      untouched (IsRetired (table ∷ tables)) opening old is.opened later image is.opened.now.handed (is.is_opened.now image of)
 
   -- since it has recovered
   trim_keeps : KeepsOnce (IsRetired (table ∷ tables)) opening is.opened new
   trim_keeps = record {
-    leaves = leaves_weaker (HoldsEither table notes is.opened.now) (IsOnce (IsRetired (table ∷ tables)) opening) is.opened new trimmed_once is.leaves;
+    leaves = leaves_weaker (HoldsEither table notes (trimmed table notes) is.opened.now) (IsOnce (IsRetired (table ∷ tables)) opening) is.opened
+        new trimmed_once is.leaves;
     now = λ image of. trimmed_once image new.now.handed (is.now image of);
   }
 
 all_keep : (first last : World) (tables : List JobTable) → HasWholeNotes first.now.directory → TrimEvents first tables last
     → HasEachImage (IsOnce (IsRetired tables) first.now.handed) last.now
 all_keep first _ _ are no_event = whole_once (IsRetired []) first.now.directory first.now.handed are
-all_keep first _ _ are (after_session tables before after events none session) =
+all_keep first _ _ are (after_mail tables before after events none event) =
     (event_keeps (IsRetired tables) first.now.handed before after (all_keep first before tables are events)
-    (sessions_leave tables before after none) (a_session session)).now
+    (sessions_leave tables before after none) (notings_leave tables before after none) event).now
 all_keep first _ _ are (after_another tables before after events beside) =
     (beside_keeps (IsRetired tables) first.now.handed before after (all_keep first before tables are events) beside).now
 all_keep first _ _ are (after_trim tables before after table notes events is) =
     (trim_keeps tables first.now.handed before after (all_keep first before tables are events) table notes is).now
-all_keep first _ _ are (crash_of_session tables before during after events none session crash) =
+all_keep first _ _ are (crash_of_mail tables before during after events none event crash) =
     let inv = all_keep first before tables are events in
     crash_keeps (IsRetired tables) first.now.handed before during after inv
-    (event_keeps (IsRetired tables) first.now.handed before during inv (sessions_leave tables before during none) (a_session session)) crash
+    (event_keeps (IsRetired tables) first.now.handed before during inv (sessions_leave tables before during none)
+    (notings_leave tables before during none) event) crash
 all_keep first _ _ are (crash_of_another tables before during after events beside crash) =
     let inv = all_keep first before tables are events in
     crash_keeps (IsRetired tables) first.now.handed before during after inv

@@ -12,11 +12,13 @@ use Rattle.mail_notes.specs.declared.note.Note.{Note}
 use Rattle.mail_session.specs.Sessions.{AreNotesOpened, IsMailUntouched}
 use Rattle.at_mail.specs.Events.{CrashesOfTrimsAreEvents, TrimsAreEvents, after_another, after_trim, crash_of_another, crash_of_trim}
 use Rattle.at_mail.specs.Once.{IsBesideMail, IsCrashOfEvent, LeavesNotes}
-use Rattle.at_mail.specs.TrimOutcome.{IsTrimming, IsUntrimmed, TrimLeaves}
+use Rattle.at_mail.specs.Rewriting.{AreNotesKept}
+use Rattle.at_mail.specs.TrimOutcome.{IsTrimming, TrimLeaves}
 
 -- What leaves the notes untouched is beside them.
 
-untouched_beside : (start : Moment) (image : Files) (handed : List Handed) → IsMailUntouched start image handed → LeavesNotes start image handed
+untouched_beside : (start : Moment) (image : Files) (handed : List Handed) → IsMailUntouched start image handed
+    → LeavesNotes start image handed
 untouched_beside start image handed is = record {
   from = is.beside.from;
   was = is.beside.was;
@@ -26,13 +28,14 @@ untouched_beside start image handed is = record {
   no_notice = refl;
 }
 
-untrimmed_beside : (old new : World) → IsUntrimmed old new → IsBesideMail old new
-untrimmed_beside old new is = record {
+pub unwritten_beside : (old new : World) → AreNotesKept old new → IsBesideMail old new
+unwritten_beside old new is = record {
   leaves = leaves_weaker (IsMailUntouched old.now) (LeavesNotes old.now) old new (untouched_beside old.now) is.leaves;
   now = λ image of. untouched_beside old.now image new.now.handed (is.now image of);
 }
 
-opened_beside : (table : JobTable) (notes : List Note) (old opened : World) → AreNotesOpened notes table old opened → IsBesideMail old opened
+opened_beside : (table : JobTable) (notes : List Note) (old opened : World) → AreNotesOpened notes table old opened
+    → IsBesideMail old opened
 opened_beside table notes old opened is = record {
   leaves = leaves_weaker (IsMailUntouched old.now) (LeavesNotes old.now) old opened (untouched_beside old.now) is.leaves;
   now = λ image of. untouched_beside old.now image opened.now.handed (is.now image of);
@@ -42,7 +45,7 @@ own_notes : (world : World) (image : Files) → IsImage world.now.directory imag
 own_notes world image is =
     record { from = image; was = is; same = refl; given = []; grown = sym (append-nil world.now.handed); no_notice = refl }
 
-still_beside : (old new : World) → new ≡ old → IsBesideMail old new
+pub still_beside : (old new : World) → new ≡ old → IsBesideMail old new
 still_beside old new same = record {
   leaves = leaves_none (LeavesNotes old.now) old new same;
   now = subst (λ (world : World). HasEachImage (LeavesNotes old.now) world.now) (sym same) (own_notes old);
@@ -52,11 +55,11 @@ still_beside old new same = record {
 
 trim_is : (old new : World) (end : TurnEnd) → TrimLeaves old new end →
     IsBesideMail old new ⊎ ((table : JobTable) × (notes : List Note) × IsTrimming table notes old new)
-trim_is old new Done is = inr (is.table, is.notes, is.trimming)
+trim_is old new Done is = inr (is.0, is.1, is.2.writing)
 trim_is old new Busy is = inl (still_beside old new is)
-trim_is old new FileFault is = elim is [ inl none ↦ inl (untrimmed_beside old new none) | inr some ↦ inr some ]
-trim_is old new (Damaged damage) is = inl (untrimmed_beside old new is.0)
-trim_is old new Memory is = elim is [ inl none ↦ inl (untrimmed_beside old new none) | inr some ↦ inr some ]
+trim_is old new FileFault is = elim is [ inl none ↦ inl (unwritten_beside old new none) | inr some ↦ inr some ]
+trim_is old new (Damaged damage) is = inl (unwritten_beside old new is.0)
+trim_is old new Memory is = elim is [ inl none ↦ inl (unwritten_beside old new none) | inr some ↦ inr some ]
 
 pub trims_are_events : TrimsAreEvents
 trims_are_events first old new tables before after end events trims = elim (trim_is old new end (trims.leaves refl refl)) [
@@ -94,7 +97,8 @@ module _ (table : JobTable) (notes : List Note) (old during new : World) (is : I
   either =
       some_of_both IsAt is.leaves.more (is.is_opened.leaves.more ++ old.now ∷ [])
       (subst (AnyMoment IsAt)
-      (ap (λ (list : List Moment). list ++ old.now ∷ []) joined ∙ append_assoc is.leaves.more is.is_opened.leaves.more (old.now ∷ [])) crash.is_one)
+      (ap (λ (list : List Moment). list ++ old.now ∷ []) joined
+      ∙ append_assoc is.leaves.more is.is_opened.leaves.more (old.now ∷ [])) crash.is_one)
 
   crash_since : AnyMoment IsAt is.leaves.more → IsCrashOfEvent is.opened during new
   crash_since at = record {
@@ -117,18 +121,20 @@ module _ (table : JobTable) (notes : List Note) (old during new : World) (is : I
   }
 
 pub crashes_of_trims_are_events : CrashesOfTrimsAreEvents
-crashes_of_trims_are_events first old during new tables before after end events trims crash = elim (trim_is old during end (trims.leaves refl refl)) [
-  | inl beside ↦ (tables, crash_of_another tables old during new events beside crash)
-  | inr some ↦ elim (either some.0 some.1 old during new some.2 crash) [
-    | inl since ↦ (
-      some.0 ∷ tables,
-      crash_of_trim tables old during new some.0 some.1 events some.2
-          (crash_since some.0 some.1 old during new some.2 crash since),
-    )
-    | inr before_it ↦ (
-      tables,
-      crash_of_another tables old some.2.opened new events
-          (opened_beside some.0 some.1 old some.2.opened some.2.is_opened) (crash_before some.0 some.1 old during new some.2 crash before_it),
-    )
-  ]
-]
+crashes_of_trims_are_events first old during new tables before after end events trims crash =
+    elim (trim_is old during end (trims.leaves refl refl)) [
+      | inl beside ↦ (tables, crash_of_another tables old during new events beside crash)
+      | inr some ↦ elim (either some.0 some.1 old during new some.2 crash) [
+        | inl since ↦ (
+          some.0 ∷ tables,
+          crash_of_trim tables old during new some.0 some.1 events some.2
+              (crash_since some.0 some.1 old during new some.2 crash since),
+        )
+        | inr before_it ↦ (
+          tables,
+          crash_of_another tables old some.2.opened new events
+              (opened_beside some.0 some.1 old some.2.opened some.2.is_opened)
+              (crash_before some.0 some.1 old during new some.2 crash before_it),
+        )
+      ]
+    ]

@@ -6,5 +6,6 @@ use Rattle.at_mail.specs.TrimmedNotes.{stays, trimmed}
 use Rattle.at_mail.proofs.KeepingLemmas.{all_kept}
 
 -- as many notes as before are all of them
-pub as_many : (table : JobTable) (notes kept : List Note) → kept ≡ trimmed table notes → length kept ≡ length notes → trimmed table notes ≡ notes
+pub as_many : (table : JobTable) (notes kept : List Note) → kept ≡ trimmed table notes → length kept ≡ length notes
+    → trimmed table notes ≡ notes
 as_many table notes kept is count = all_kept (stays table notes) notes (ap length (sym is) ∙ count)

@@ -7,7 +7,7 @@ use Rattle.host_calls.specs.declared.turn_end.TurnEnd.{TurnEnd}
 use Rattle.spool_model.specs.JobTable.{JobTable}
 use Rattle.spool_shows.specs.Shown.{Shows}
 use Rattle.mail_notes.specs.declared.note.Note.{Note}
-use Rattle.at_mail.specs.Once.{HasOnceSince, HasWholeNotes, IsBesideMail, IsCrashOfEvent, IsMailSession}
+use Rattle.at_mail.specs.Once.{HasOnceSince, HasWholeNotes, IsBesideMail, IsCrashOfEvent, MailEvent}
 use Rattle.at_mail.specs.Laws.{NoJobLivesAgain}
 use Rattle.at_mail.specs.TrimOutcome.{IsTrimming, TrimsTo}
 
@@ -17,18 +17,18 @@ NoneLivesAgain table now = (later : JobTable) → Shows (reading now) later → 
 
 -- Events one after another, with the tables by which trims dropped notes, the last one first: a trim has recovered then, and
 -- each image shows the table. Each event begins where the one before it ended, or where a crash of it left the directory. A
--- session of mail begins where no job lives that is over in one of the tables. What comes before the recovery of a trim, and
--- a trim that drops nothing, is an event that leaves the notes alone.
+-- session of mail and a noting of the new jobs begin where no job lives that is over in one of the tables. What comes before
+-- the recovery of a trim, and a trim that drops nothing, is an event that leaves the notes alone.
 pub data TrimEvents (first : World) : List JobTable → World → Type 0 where
   no_event : TrimEvents first [] first
-  after_session : (tables : List JobTable) (before after : World) → TrimEvents first tables before
-      → All (λ table. NoneLivesAgain table before) tables → IsMailSession before after → TrimEvents first tables after
+  after_mail : (tables : List JobTable) (before after : World) → TrimEvents first tables before
+      → All (λ table. NoneLivesAgain table before) tables → MailEvent before after → TrimEvents first tables after
   after_another : (tables : List JobTable) (before after : World) → TrimEvents first tables before → IsBesideMail before after
       → TrimEvents first tables after
   after_trim : (tables : List JobTable) (before after : World) (table : JobTable) (notes : List Note)
       → TrimEvents first tables before → IsTrimming table notes before after → TrimEvents first (table ∷ tables) after
-  crash_of_session : (tables : List JobTable) (before during after : World) → TrimEvents first tables before
-      → All (λ table. NoneLivesAgain table before) tables → IsMailSession before during → IsCrashOfEvent before during after
+  crash_of_mail : (tables : List JobTable) (before during after : World) → TrimEvents first tables before
+      → All (λ table. NoneLivesAgain table before) tables → MailEvent before during → IsCrashOfEvent before during after
       → TrimEvents first tables after
   crash_of_another : (tables : List JobTable) (before during after : World) → TrimEvents first tables before
       → IsBesideMail before during → IsCrashOfEvent before during after → TrimEvents first tables after

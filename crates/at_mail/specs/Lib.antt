@@ -1,8 +1,10 @@
 pub mod Events
 pub mod Laws
+pub mod NotingOutcome
 pub mod Once
 pub mod Outcomes
 pub mod Program
+pub mod Rewriting
 pub mod SessionsWithRests
 pub mod TrimOutcome
 pub mod TrimProgram

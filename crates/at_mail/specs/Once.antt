@@ -3,6 +3,7 @@ use Rattle.std.specs.Prelude.{◌≡◌, ◌++◌, [], ◌∷◌, ℕ, Bool, tru
 use Rattle.std.specs.FinMap as finite
 use Rattle.host_calls.specs.declared.child.Handed.{Handed}
 use Rattle.host_calls.specs.Directory.{Files, Directory, HasImagesOf, IsImage}
+use Rattle.host_calls.specs.Session.{Session}
 use Rattle.host_calls.specs.World.{AnyMoment, HasEachImage, LeavesOnly, Moment, World, moments}
 use Rattle.at_words.specs.Numbers.{are_distinct}
 use Rattle.job_script.specs.HeaderIn.{header_in}
@@ -12,6 +13,7 @@ use Rattle.mail_notes.specs.Names.{mail_file}
 use Rattle.mail_session.specs.SessionOutcome.{GivesNotes, MailLeaves, PostSpool, PostsTo}
 use Rattle.tool_output.specs.Outside.{Telling, WorkAt}
 use Rattle.at_mail.specs.SessionsWithRests.{MakesMailSessions}
+use Rattle.at_mail.specs.NotingOutcome.{IsNoting, NotesNewJobs}
 use Rattle.at_mail.specs.Outcomes.{PostItem}
 
 -- what was sent is a notice: its script has no header of a job
@@ -51,9 +53,10 @@ pub record IsBesideMail (old new : World) : Type 0 where
   pub leaves : LeavesOnly (LeavesNotes old.now) old new
   pub now : HasEachImage (LeavesNotes old.now) new.now
 
--- an event: a session of mail, or another one
+-- an event: a session of mail, one that notes the new jobs, or another one
 pub data MailEvent (old new : World) : Type 0 where
   a_session : IsMailSession old new → MailEvent old new
+  a_noting : IsNoting old new → MailEvent old new
   another : IsBesideMail old new → MailEvent old new
 
 -- A crash at a moment of the event: what is then has images of that moment alone, and what was sent by then.
@@ -87,6 +90,11 @@ NoticesAreHandedOnce = (first last : World) → HasWholeNotes first.now.director
 abbrev pub SessionsAreEvents : Type 0
 SessionsAreEvents = (old new : PostSpool) (end : TurnEnd) (sent : List ℕ) → PostsTo true true old new end sent
     → MailEvent old.world new.world
+
+-- so is a noting of the new jobs
+abbrev pub NotingsAreEvents : Type 0
+NotingsAreEvents = (old new : World) (before after : Session) (end : TurnEnd) → NotesNewJobs true true before after old new end
+    → MailEvent old new
 
 -- and the sessions of the program are events, one after another
 abbrev pub ProgramsAreEvents : Type 0

@@ -1,78 +1,29 @@
 -- What a trim leaves, by its end (own).
-use Rattle.std.specs.Prelude.{◌≡◌, ◌⊎◌, ℕ, Bool, true, List}
-use Rattle.std.specs.FinMap as finite
-use Rattle.host_calls.specs.declared.child.Handed.{Handed}
-use Rattle.host_calls.specs.Causes.{Rose}
-use Rattle.host_calls.specs.Directory.{Files, IsImage}
-use Rattle.host_calls.specs.Session.{IsLeft, Session}
-use Rattle.host_calls.specs.World.{HasEachImage, LeavesOnly, Moment, World, reading}
+use Rattle.std.specs.Prelude.{Bool, List}
+use Rattle.host_calls.specs.Session.{Session}
+use Rattle.host_calls.specs.World.{World}
 use Rattle.host_calls.specs.declared.turn_end.TurnEnd.{TurnEnd}
-use Rattle.host_calls.specs.declared.turn_end.TurnEnd.TheVariants.{Done, Busy, FileFault, Damaged, Memory}
 use Rattle.spool_model.specs.JobTable.{JobTable}
-use Rattle.spool_shows.specs.Shown.{Shows}
-use Rattle.spool_store.specs.Recovery.{ShowsTheSame}
-use Rattle.step_runs.specs.Current.{IsSpoolName}
-use Rattle.whole_file.specs.Others.{IsEither, LeavesOthers}
 use Rattle.mail_notes.specs.declared.note.Note.{Note}
-use Rattle.mail_notes.specs.Lines.{HoldsNotes}
-use Rattle.mail_notes.specs.Names.{mail_file, mail_temp}
-use Rattle.mail_session.specs.SessionOutcome.{GivesNotes, IsSpoolOrNotesDamage}
-use Rattle.mail_session.specs.Sessions.{AreNotesOpened, IsMailUntouched}
+use Rattle.at_mail.specs.Rewriting.{IsRewriting, IsRewritten, RewriteLeaves, RewritesTo}
 use Rattle.at_mail.specs.TrimmedNotes.{trimmed}
 
--- The image shows the table, and holds the notes or those of them that stay. Other files are left alone, and nothing was
--- sent.
-pub record HoldsEither (table : JobTable) (notes : List Note) (start : Moment) (image : Files)
-    (handed : List Handed) : Type 0 where
-  pub alone : LeavesOthers (IsEither mail_temp mail_file) start.directory image
-  pub shows : Shows image table
-  pub holds : HoldsNotes (finite.get image mail_file) notes ⊎ HoldsNotes (finite.get image mail_file) (trimmed table notes)
-  pub as_many : handed ≡ start.handed
+-- each image holds the notes or those of them that stay
+abbrev pub IsTrimming : JobTable → List Note → World → World → Type 0
+IsTrimming table notes old new = IsRewriting table notes (trimmed table notes) old new
 
--- The reading shows the table and has the notes. The recovery leaves the notes in each image, and then each image of each
--- moment, and each that the end leaves, holds them or those that stay.
-pub record IsTrimming (table : JobTable) (notes : List Note) (old new : World) : Type 0 where
-  pub shown : Shows (reading old) table
-  pub gives : GivesNotes (finite.get (reading old) mail_file) notes
-  pub opened : World
-  pub is_opened : AreNotesOpened notes table old opened
-  pub leaves : LeavesOnly (HoldsEither table notes opened.now) opened new
-  pub now : HasEachImage (HoldsEither table notes opened.now) new.now
-  pub asked : new.asked ≡ old.asked
+-- the notes that stay are in each image
+abbrev pub IsTrimmed : World → World → Type 0
+IsTrimmed old new = (table : JobTable) × (notes : List Note) × IsRewritten table notes (trimmed table notes) old new
 
--- The notes that stay are in each image, and other files read as before.
-pub record IsTrimmed (old new : World) : Type 0 where
-  pub table : JobTable
-  pub notes : List Note
-  pub trimming : IsTrimming table notes old new
-  pub stand : (image : Files) → IsImage new.now.directory image → HoldsNotes (finite.get image mail_file) (trimmed table notes)
-  pub others : (name : List ℕ) → ¬ (IsSpoolName name) → ¬ (IsEither mail_temp mail_file name)
-      → finite.get (reading new) name ≡ finite.get (reading old) name
-
--- No note was dropped: the reading shows what it showed, each image has the notes of one of the start, and nothing was
--- sent or asked.
-pub record IsUntrimmed (old new : World) : Type 0 where
-  pub leaves : LeavesOnly (IsMailUntouched old.now) old new
-  pub now : HasEachImage (IsMailUntouched old.now) new.now
-  pub shown : ShowsTheSame old.now.directory new.now.directory
-  pub asked : new.asked ≡ old.asked
-
--- the trim was stopped before its replacement, or in it
+-- the trim was stopped in its replacement
 abbrev pub IsTrimStopped : World → World → Type 0
-IsTrimStopped old new = IsUntrimmed old new ⊎ ((table : JobTable) × (notes : List Note) × IsTrimming table notes old new)
+IsTrimStopped old new = (table : JobTable) × (notes : List Note) × IsTrimming table notes old new
 
 -- what a trim leaves, by its end
 abbrev pub TrimLeaves : World → World → TurnEnd → Type 0
-TrimLeaves old new Done = IsTrimmed old new
-TrimLeaves old new Busy = new ≡ old
-TrimLeaves old new FileFault = IsTrimStopped old new
-TrimLeaves old new (Damaged damage) = IsUntrimmed old new × IsSpoolOrNotesDamage (reading old) damage
-TrimLeaves old new Memory = IsTrimStopped old new
+TrimLeaves old new end = RewriteLeaves IsTrimmed IsTrimStopped old new end
 
--- A trim. Of every host: its session is over, it started no child, and why it ended so. Of a host that exposes its files
--- and is alone: what it leaves.
-pub record TrimsTo (tells alone : Bool) (before after : Session) (old new : World) (end : TurnEnd) : Type 0 where
-  pub left : IsLeft before after
-  pub busy : end ≡ Busy → Rose before.taken after.taken
-  pub fault : end ≡ FileFault → Rose before.file_faults after.file_faults
-  pub leaves : tells ≡ true → alone ≡ true → TrimLeaves old new end
+-- a trim
+abbrev pub TrimsTo : Bool → Bool → Session → Session → World → World → TurnEnd → Type 0
+TrimsTo tells alone before after old new end = RewritesTo IsTrimmed IsTrimStopped tells alone before after old new end

@@ -1,2 +1,3 @@
+pub mod FoundNews
 pub mod OneSession
 pub mod TrimWrite

@@ -1,5 +1,5 @@
 //! What holds of all sessions of mail, as the contract of a function.
-ghost use Rattle.at_mail.specs.Once.{NoticesAreHandedOnce, ProgramsAreEvents, SessionsAreEvents};
+ghost use Rattle.at_mail.specs.Once.{NoticesAreHandedOnce, NotingsAreEvents, ProgramsAreEvents, SessionsAreEvents};
 
 /// Over any list of sessions, other events and crashes no notice is sent twice, where each image of the directory
 /// had a whole file of notes.
@@ -12,4 +12,5 @@ pub fn notices_are_handed_once()
 pub fn sessions_of_mail_are_events()
     ensures sessions { SessionsAreEvents }
     ensures programs { ProgramsAreEvents }
+    ensures notings { NotingsAreEvents }
 {}

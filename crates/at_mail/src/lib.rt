@@ -19,20 +19,21 @@
 //! 5. `TrimWords` and `TrimProgram`: what the words request, and how the program ends
 #![tactic(auto)]
 
-mod kept;
 mod laws;
+mod lines;
+mod noting;
 mod outcome;
-mod outcomes;
 mod program;
-mod read;
 mod request;
-mod session;
-mod sessions;
+mod session_loop;
+mod trim_kept;
 mod trim_laws;
+mod trim_read;
+mod trim_session;
 mod trim_tool;
 mod trim_words;
+mod trim_write;
 mod words;
-mod write;
 
 pub use laws::{notices_are_handed_once, sessions_of_mail_are_events};
 pub use mail_notes::{
@@ -40,9 +41,10 @@ pub use mail_notes::{
     notice_text,
 };
 pub use mail_session::{Post, PostReport};
+pub use noting::note_new_jobs;
 pub use program::post_program;
-pub use session::trim;
 pub use trim_laws::{
     notices_are_handed_once_with_trims, steps_revive_no_job, trims_change_no_session,
 };
+pub use trim_session::trim;
 pub use trim_tool::trim_program;

@@ -6,9 +6,9 @@ ghost use Rattle.mail_session.specs.PostState.{may_be_program};
 ghost use Rattle.at_mail.specs.Program.{PostEnds, mail_outside};
 ghost use Rattle.at_mail.specs.Words.{post_asked};
 
-use crate::outcomes::{MAIL_PROGRAM, say_mail_outcome};
+use crate::lines::{MAIL_PROGRAM, say_mail_outcome};
 use crate::request::PostRequest;
-use crate::sessions::make_mail_sessions;
+use crate::session_loop::make_mail_sessions;
 use crate::words::mail_request;
 use host_calls::{Host, Readings, Sink};
 use listing_text::{Cause, Status};

@@ -44,7 +44,8 @@ frame_on tells old middle new first second = record {
 
 module _ (tells : Telling) (user : List ℕ) (which : Filter) where
   look_frame : (old new : WaitAt) (result : Result Kept CommandError) → LooksAt tells user which old new result → Frame tells old new
-  look_frame old new result look = record { left = look.spool.left; goes_on = look.spool.goes_on; readers = ap (λ (at : ClockAt). at.readers) look.clock }
+  look_frame old new result look =
+      record { left = look.spool.left; goes_on = look.spool.goes_on; readers = ap (λ (at : ClockAt). at.readers) look.clock }
 
   rest_frame : (old new : WaitAt) → IsOutside old.spool.session → RestsBetween tells old new → Frame tells old new
   rest_frame old new outside rests = record {
@@ -61,7 +62,8 @@ module _ (tells : Telling) (user : List ℕ) (which : Filter) where
   waits_frame : (awaited : List ℕ) (start : WaitAt) (seen : Kept) (count : ℕ) (kept : Kept) (now : WaitAt) → IsOutside start.spool.session
       → Waits tells user which awaited start seen count kept now → Frame tells start now
   waits_frame awaited start seen count kept now outside no_more = no_frame tells start outside
-  waits_frame awaited start seen count kept now outside (once_more before_count before_kept later before rested after waits lives rests look) =
+  waits_frame awaited start seen count kept now outside
+      (once_more before_count before_kept later before rested after waits lives rests look) =
       let before_it : Frame tells start before = waits_frame awaited start seen before_count before_kept before outside waits in
       frame_on tells start before now before_it (again_frame before rested now (Ok later) before_it.left.outside rests look)
 
@@ -70,7 +72,8 @@ module _ (tells : Telling) (user : List ℕ) (which : Filter) where
   after_frame None seen start new kept finished outside comes = subst (Frame tells start) (sym comes.0) (no_frame tells start outside)
   after_frame (Some turns) seen start new kept finished outside waited = waits_frame _ start seen waited.count kept new outside waited.waits
 
-  pub seen_frame : (wait : Option ℕ) (old new : WaitAt) (kept : Kept) (finished : Bool) → HasSeen tells user wait which old new kept finished → Frame tells old new
+  pub seen_frame : (wait : Option ℕ) (old new : WaitAt) (kept : Kept) (finished : Bool)
+      → HasSeen tells user wait which old new kept finished → Frame tells old new
   seen_frame wait old new kept finished sees =
       let first : Frame tells old sees.start = look_frame old sees.start (Ok sees.seen) sees.first in
       frame_on tells old sees.start new first (after_frame wait sees.seen sees.start new kept finished first.left.outside sees.later)
@@ -82,7 +85,8 @@ module _ (tells : Telling) (user : List ℕ) (which : Filter) where
     pub busy : cause ≡ Busy → Rose old.spool.session.taken new.spool.session.taken
 
   look_stop : (old new : WaitAt) (stopped : CommandError) → LooksAt tells user which old new (Err stopped) → Stop old new stopped.cause
-  look_stop old new stopped look = record { frame = look_frame old new (Err stopped) look; file_fault = look.spool.file_fault; busy = look.spool.busy }
+  look_stop old new stopped look =
+      record { frame = look_frame old new (Err stopped) look; file_fault = look.spool.file_fault; busy = look.spool.busy }
 
   risen_on : (old middle new : ℕ) → old ≤ middle → Rose middle new → Rose old new
   risen_on old middle new later rose = omega arith
@@ -92,13 +96,15 @@ module _ (tells : Telling) (user : List ℕ) (which : Filter) where
     frame = frame_on tells old middle new first stop.frame;
     file_fault = λ same. risen_on old.spool.session.file_faults middle.spool.session.file_faults new.spool.session.file_faults
         first.left.counts.file_faults (stop.file_fault same);
-    busy = λ same. risen_on old.spool.session.taken middle.spool.session.taken new.spool.session.taken first.left.counts.taken (stop.busy same);
+    busy = λ same.
+        risen_on old.spool.session.taken middle.spool.session.taken new.spool.session.taken first.left.counts.taken (stop.busy same);
   }
 
   waiting_stop : (turns : ℕ) (awaited : List ℕ) (seen : Kept) (start new : WaitAt) (stopped : CommandError) → IsOutside start.spool.session
       → StopsWaiting tells user turns which awaited seen start new stopped → Stop start new stopped.cause
   waiting_stop turns awaited seen start new stopped outside stops =
-      let waited : Frame tells start stops.before = waits_frame awaited start seen stops.count stops.kept stops.before outside stops.waits in
+      let waited : Frame tells start stops.before =
+      waits_frame awaited start seen stops.count stops.kept stops.before outside stops.waits in
       stop_on start stops.rested new stopped.cause
       (frame_on tells start stops.before stops.rested waited (rest_frame stops.before stops.rested waited.left.outside stops.rests))
       (look_stop stops.rested new stopped stops.stops)
@@ -115,7 +121,8 @@ module _ (tells : Telling) (user : List ℕ) (which : Filter) where
       }))
   after_stop (Some turns) seen start new stopped outside (inr stops) = waiting_stop turns _ seen start new stopped outside stops
 
-  pub stopped_stop : (wait : Option ℕ) (old new : WaitAt) (stopped : CommandError) → HasStopped tells user wait which old new stopped → Stop old new stopped.cause
+  pub stopped_stop : (wait : Option ℕ) (old new : WaitAt) (stopped : CommandError) → HasStopped tells user wait which old new stopped
+      → Stop old new stopped.cause
   stopped_stop wait old new stopped (at_first look) = look_stop old new stopped look
   stopped_stop wait old new stopped (at_later seen start look stops) =
       let first : Frame tells old start = look_frame old start (Ok seen) look in

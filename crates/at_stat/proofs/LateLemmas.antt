@@ -46,18 +46,21 @@ number_late user table number = by_test (nat_le 1 number && nat_le number table.
 
 numbers_late : (user : List ℕ) (table : JobTable) (numbers : List ℕ) → IsLate (numbers_check user table numbers)
 numbers_late user table [] = tt
-numbers_late user table (number ∷ later) = by_first (named_check user table number) (number_late user table number) (numbers_late user table later) where
-  by_first : (first : Option Refusal) → IsLate first → IsLate (numbers_check user table later)
-      → IsLate (first_refusal (first ∷ map (λ one. named_check user table one) later))
-  by_first None late others = others
-  by_first (Some refusal) late others = late
+numbers_late user table (number ∷ later) =
+    by_first (named_check user table number) (number_late user table number) (numbers_late user table later)
+  where
+    by_first : (first : Option Refusal) → IsLate first → IsLate (numbers_check user table later)
+        → IsLate (first_refusal (first ∷ map (λ one. named_check user table one) later))
+    by_first None late others = others
+    by_first (Some refusal) late others = late
 
 which_late : (user : List ℕ) (table : JobTable) (which : Filter) → IsLate (which_check user table which)
 which_late user table filter.All = tt
 which_late user table (filter.Queue letter) = tt
 which_late user table (filter.Numbers named) = numbers_late user table named
 
-pub denied_comes : (user : List ℕ) (table : JobTable) (which : Filter) (refusal : Refusal) → Some refusal ≡ which_check user table which → IsOfSession (Refused refusal)
+pub denied_comes : (user : List ℕ) (table : JobTable) (which : Filter) (refusal : Refusal) → Some refusal ≡ which_check user table which
+    → IsOfSession (Refused refusal)
 denied_comes user table which refusal is = subst IsLate (sym is) (which_late user table which)
 
 -- a fault of the directory or of memory, a damage, a lock that was taken, or a refusal
@@ -74,7 +77,8 @@ entry_of_spool entry.Taken = tt
 entry_of_spool entry.Failed = tt
 entry_of_spool entry.Memory = tt
 
-not_opened_of_spool : (tells : Bool) (user : List ℕ) (old new : World) (cause : Cause) → IsNotOpened tells user old new cause → IsOfSpool cause
+not_opened_of_spool : (tells : Bool) (user : List ℕ) (old new : World) (cause : Cause)
+    → IsNotOpened tells user old new cause → IsOfSpool cause
 not_opened_of_spool tells user old new cause (lists_fault same) = tt
 not_opened_of_spool tells user old new cause (lists_lack_memory same) = tt
 not_opened_of_spool tells user old new cause (faults allow deny permits lists unbegun) = tt
@@ -92,14 +96,17 @@ look_of_spool tells user which old new stopped look = elim look.spool.looks [
   inside entered left (inl closed) = not_opened_of_spool tells.files user entered left stopped.cause closed
   inside entered left (inr denied) = subst IsOfSpool (sym denied.cause_is) tt
 
-after_of_spool : (tells : Telling) (user : List ℕ) (wait : Option ℕ) (which : Filter) (seen : Kept) (start new : WaitAt) (stopped : CommandError)
+after_of_spool : (tells : Telling) (user : List ℕ) (wait : Option ℕ) (which : Filter) (seen : Kept) (start new : WaitAt)
+    (stopped : CommandError)
     → StopsStatAfter tells user wait which seen start new stopped → IsOfSpool stopped.cause
 after_of_spool tells user None which seen start new stopped stops = absurd stops
-after_of_spool tells user (Some turns) which seen start new stopped (inl memory) = subst (λ (one : CommandError). IsOfSpool one.cause) (sym memory.1) tt
+after_of_spool tells user (Some turns) which seen start new stopped (inl memory) =
+    subst (λ (one : CommandError). IsOfSpool one.cause) (sym memory.1) tt
 after_of_spool tells user (Some turns) which seen start new stopped (inr stops) =
     look_of_spool tells user which stops.rested new stopped stops.stops
 
 pub stopped_of_spool : (tells : Telling) (user : List ℕ) (wait : Option ℕ) (which : Filter) (old new : WaitAt) (stopped : CommandError)
     → HasStopped tells user wait which old new stopped → IsOfSpool stopped.cause
 stopped_of_spool tells user wait which old new stopped (at_first look) = look_of_spool tells user which old new stopped look
-stopped_of_spool tells user wait which old new stopped (at_later seen start look stops) = after_of_spool tells user wait which seen start new stopped stops
+stopped_of_spool tells user wait which old new stopped (at_later seen start look stops) =
+    after_of_spool tells user wait which seen start new stopped stops

@@ -4,7 +4,6 @@ mod FrameLemmas
 mod LateLemmas
 mod LookLemmas
 mod SightLemmas
-mod UserLemmas
 pub mod LineLemmas
 pub mod PlainLemmas
 pub mod StageLemmas

@@ -20,12 +20,14 @@ on_ok (Ok value) P Q step is = step is
 on_ok (Err fault) P Q step is = tt
 
 -- one more number has one more line
-pub one_more : (form : Form) (zone : Zone) (table : JobTable) (numbers : List ℕ) (index : ℕ) (or : ℕ) (text line more : List ℕ) → index < length numbers
+pub one_more : (form : Form) (zone : Zone) (table : JobTable) (numbers : List ℕ) (index : ℕ) (or : ℕ) (text line more : List ℕ)
+    → index < length numbers
     → IsReport form zone table (take index numbers) text → ShowsNumber form zone table (get_or numbers index or) line → more ≡ text ++ line
     → IsReport form zone table (take (index + 1) numbers) more
 one_more form zone table numbers index or text line more inside shows is put = record {
   lines = shows.lines ++ line ∷ [];
-  shown = subst (λ (prefix : List ℕ). AllZip (ShowsNumber form zone table) prefix (shows.lines ++ line ∷ [])) (sym (take_more numbers index or inside))
+  shown = subst (λ (prefix : List ℕ). AllZip (ShowsNumber form zone table) prefix (shows.lines ++ line ∷ []))
+      (sym (take_more numbers index or inside))
       (zip_push (ShowsNumber form zone table) (take index numbers) shows.lines (get_or numbers index or) line shows.shown is);
   joined = put ∙ ap (λ (prefix : List ℕ). prefix ++ line) shows.joined ∙ sym (concat_push shows.lines line);
 }

@@ -11,12 +11,15 @@ use Rattle.spool_session.specs.Sessions.{EndsCommandSession, HasRisenIn, StaysQu
 use Rattle.step_runs.specs.Current.{Kept}
 use Rattle.at_stat.specs.OneLook.{LooksAtJobs, LooksInside, stat_spool_at}
 
-module _ {H F : Type 0} (g : Ghosts H) (calls : Calls H F (Result Kept CommandError)) (work left : F) (old new : H) (result : Result Kept CommandError)
+module _ {H F : Type 0} (g : Ghosts H) (calls : Calls H F (Result Kept CommandError)) (work left : F) (old new : H)
+    (result : Result Kept CommandError)
     (user : List ℕ) (which : Filter) where
   -- the session could not begin, or the work was done in it
   pub looks_of_session : StaysQuiet g old new → HasRisenIn g old new (cause_in result) → EndsCommandSession g calls work left old new result
-      → ((first last : H) → CalledAtMut calls work first result left last → LooksInside g.tells user which (g.world first) (g.world last) result)
-      → LooksAtJobs g.tells g.alone user which (stat_spool_at (g.session old) (g.world old)) (stat_spool_at (g.session new) (g.world new)) result
+      → ((first last : H) → CalledAtMut calls work first result left last
+      → LooksInside g.tells user which (g.world first) (g.world last) result)
+      → LooksAtJobs g.tells g.alone user which (stat_spool_at (g.session old) (g.world old))
+      (stat_spool_at (g.session new) (g.world new)) result
   looks_of_session quiet faults ends within = record {
     left = quiet.left;
     goes_on = quiet.goes_on;

@@ -47,7 +47,8 @@ plain_weekday weekday =
 
 plain_month : (month : ℕ) → are_plain (month_text month) ≡ true
 plain_month month =
-    plain_at (codes "Jan" ∷ codes "Feb" ∷ codes "Mar" ∷ codes "Apr" ∷ codes "May" ∷ codes "Jun" ∷ codes "Jul" ∷ codes "Aug" ∷ codes "Sep" ∷ codes "Oct" ∷ codes "Nov" ∷ codes "Dec" ∷ []) (month - 1) refl
+    plain_at (codes "Jan" ∷ codes "Feb" ∷ codes "Mar" ∷ codes "Apr" ∷ codes "May" ∷ codes "Jun" ∷ codes "Jul" ∷ codes "Aug" ∷ codes "Sep"
+    ∷ codes "Oct" ∷ codes "Nov" ∷ codes "Dec" ∷ []) (month - 1) refl
 
 -- two bytes
 plain_two : (first second : ℕ) → is_plain first ≡ true → is_plain second ≡ true → are_plain (first ∷ second ∷ []) ≡ true
@@ -63,7 +64,8 @@ plain_day : (day : ℕ) → day ≤ 31 → are_plain (day_text day) ≡ true
 plain_day day few = plain_two (day_tens day) (digit (day % 10)) (plain_tens day few) (plain_digit (day % 10) (omega arith))
 
 plain_digits : (number : ℕ) → number ≤ 59 → are_plain (two_digits number) ≡ true
-plain_digits number few = plain_two (48 + number / 10) (48 + number % 10) (plain_digit (number / 10) (omega arith)) (plain_digit (number % 10) (omega arith))
+plain_digits number few =
+    plain_two (48 + number / 10) (48 + number % 10) (plain_digit (number / 10) (omega arith)) (plain_digit (number % 10) (omega arith))
 
 plain_time : (civil : CivilMinute) → IsPrintable civil → are_plain (time_text civil) ≡ true
 plain_time civil is =
@@ -84,7 +86,12 @@ plain_four n low high =
     let third = decimal_step (n / 10) (omega arith) (omega arith) in
     let last = decimal_step n (omega arith) (omega arith) in
     rw (last, third, hundreds, second, thousands, first)
-    (rw (plain_digit (n / 1000) (omega arith), plain_digit (n / 100 % 10) (omega arith), plain_digit (n / 10 % 10) (omega arith), plain_digit (n % 10) (omega arith)) refl)
+    (rw (
+      plain_digit (n / 1000) (omega arith),
+      plain_digit (n / 100 % 10) (omega arith),
+      plain_digit (n / 10 % 10) (omega arith),
+      plain_digit (n % 10) (omega arith),
+    ) refl)
 
 plain_year : (year : ℤ) → pos 1000 ≤ℤ year → year ≤ℤ pos 9999 → are_plain (signed_decimal year) ≡ true
 plain_year (pos n) low high = plain_four n (omega (arith, ints)) (omega (arith, ints))
@@ -106,7 +113,8 @@ plain_date civil is =
     plain_append (to_month ++ space) day (plain_append to_month space month_plain refl) (plain_day civil.day is.day.1) in
     let time_plain : are_plain to_time ≡ true =
     plain_append (to_day ++ space) time (plain_append to_day space day_plain refl) (plain_time civil is) in
-    plain_append (to_time ++ space) (signed_decimal civil.year) (plain_append to_time space time_plain refl) (plain_year civil.year is.year.0 is.year.1)
+    plain_append (to_time ++ space) (signed_decimal civil.year) (plain_append to_time space time_plain refl)
+    (plain_year civil.year is.year.0 is.year.1)
 
 -- bytes of users' names
 plain_byte : (byte : ℕ) → is_user_byte byte ≡ true → is_plain byte ≡ true
@@ -130,7 +138,8 @@ plain_state Pending = refl
 plain_state (Running second) = refl
 
 -- no string of a live job's object needs an escape
-pub needs_no_escape : (row : Row) (civil : CivilMinute) → IsRowInRange row → IsUserName row.user → IsPrintable civil → NeedsNoEscape row (date_text_of civil)
+pub needs_no_escape : (row : Row) (civil : CivilMinute) → IsRowInRange row → IsUserName row.user → IsPrintable civil
+    → NeedsNoEscape row (date_text_of civil)
 needs_no_escape row civil range user printable = record {
   date_is = plain_date civil printable;
   queue_is = plain_letter row.queue range.named.letter;

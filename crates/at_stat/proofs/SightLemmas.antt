@@ -5,14 +5,15 @@ use Rattle.at_words.specs.declared.filter.Filter.{Filter}
 use Rattle.tool_output.specs.declared.command_error.CommandError.{CommandError}
 use Rattle.tool_output.specs.Outside.{Telling}
 use Rattle.step_runs.specs.Current.{Kept}
-use Rattle.at_stat.specs.declared.wait.StatResult.{StatResult}
+use Rattle.at_stat.specs.declared.session_loop.StatResult.{StatResult}
 use Rattle.at_stat.specs.WaitSessions.{ComesAfter, HasSeen, LooksAt, StopsStatAfter, WaitAt, at_later}
 use Rattle.at_stat.specs.inside.WaitResults.{Awaits, Sees}
 
 module _ (tells : Telling) (user : List ℕ) (wait : Option ℕ) (which : Filter) (old start new : WaitAt) (seen : Kept)
     (first : LooksAt tells user which old start (Ok seen)) where
   -- the ends of jobs are waited for
-  pub sees_after : (turns : ℕ) (result : Result StatResult CommandError) → wait ≡ Some turns → Awaits tells user turns which seen start new result
+  pub sees_after : (turns : ℕ) (result : Result StatResult CommandError) → wait ≡ Some turns
+      → Awaits tells user turns which seen start new result
       → Sees tells user wait which old new result
   sees_after turns (Ok sight) is awaits = record {
     seen = seen;

@@ -23,21 +23,26 @@ use Rattle.at_stat.specs.Stages.{stage_of_number, stage_under}
 use Rattle.at_stat.specs.inside.StageSearch.{IsDoneStage}
 
 -- an entry has the same stage without its script
-stage_without_script : (number : ℕ) (found : Option JobEntry) → stage_under number (option_map entry_without_script found) ≡ stage_under number found
+stage_without_script : (number : ℕ) (found : Option JobEntry)
+    → stage_under number (option_map entry_without_script found) ≡ stage_under number found
 stage_without_script number None = refl
 stage_without_script number (Some (entry.Live job state)) = refl
 stage_without_script number (Some (entry.Done fate)) = refl
 
-pub stage_of-without_scripts : (table : JobTable) (number : ℕ) → stage_of_number (without_scripts table) number ≡ stage_of_number table number
+pub stage_of-without_scripts : (table : JobTable) (number : ℕ)
+    → stage_of_number (without_scripts table) number ≡ stage_of_number table number
 stage_of-without_scripts table number =
     ap (stage_under number) (entries_are_without_scripts table number) ∙ stage_without_script number (entry_at table number)
 
 -- a row that is found is that of the number's stage
-pub live_stage : (table : JobTable) (rows : List Row) (number : ℕ) (row : Row) → ListsLive table rows → entry_under (map row_entry rows) number ≡ Some (row_entry row).1
+pub live_stage : (table : JobTable) (rows : List Row) (number : ℕ) (row : Row) → ListsLive table rows
+    → entry_under (map row_entry rows) number ≡ Some (row_entry row).1
     → row.number ≡ number → Live row ≡ stage_of_number table number
 live_stage table rows number row lists found named =
-    let has : Has (map row_entry rows) (number, (row_entry row).1) = key_has nat_cmp exact_unsigned (map row_entry rows) number (row_entry row).1 found in
-    let made : (one : Row) × Has rows one × (row_entry one ≡ (number, (row_entry row).1)) = made_has row_entry rows (number, (row_entry row).1) has in
+    let has : Has (map row_entry rows) (number, (row_entry row).1) =
+    key_has nat_cmp exact_unsigned (map row_entry rows) number (row_entry row).1 found in
+    let made : (one : Row) × Has rows one × (row_entry one ≡ (number, (row_entry row).1)) =
+    made_has row_entry rows (number, (row_entry row).1) has in
     let held : entry_at table number ≡ Some (row_entry row).1 =
     sym (ap (λ (pair : ℕ × JobEntry). entry_at table pair.0) made.2) ∙ lists.each made.0 (contained rows made.0 made.1)
     ∙ ap (λ (pair : ℕ × JobEntry). Some pair.1) made.2 in
@@ -56,7 +61,8 @@ not_live table rows number lists absent job state held =
     (sym absent ∙ has_key nat_cmp nat_cmp_total (map row_entry rows) number (entry.Live job state) (test_from _ lists.rise) has)
 
 -- and one that is not among the numbers of jobs that are done, is not done
-not_done : (table : JobTable) (decided : List Decided) (number : ℕ) → ListsDecided table decided → entry_under (map decided_entry decided) number ≡ None
+not_done : (table : JobTable) (decided : List Decided) (number : ℕ) → ListsDecided table decided
+    → entry_under (map decided_entry decided) number ≡ None
     → (fate : Fate) → entry_at table number ≡ Some (entry.Done fate) → ⊥
 not_done table decided number lists absent fate held =
     let done = lists.all number fate held in
@@ -69,18 +75,23 @@ not_done table decided number lists absent fate held =
 is_done : (table : JobTable) (decided : List Decided) (number : ℕ) (fate : Fate) → ListsDecided table decided
     → entry_under (map decided_entry decided) number ≡ Some (entry.Done fate) → entry_at table number ≡ Some (entry.Done fate)
 is_done table decided number fate lists found =
-    let has : Has (map decided_entry decided) (number, entry.Done fate) = key_has nat_cmp exact_unsigned (map decided_entry decided) number (entry.Done fate) found in
-    let made : (one : Decided) × Has decided one × (decided_entry one ≡ (number, entry.Done fate)) = made_has decided_entry decided (number, entry.Done fate) has in
+    let has : Has (map decided_entry decided) (number, entry.Done fate) =
+    key_has nat_cmp exact_unsigned (map decided_entry decided) number (entry.Done fate) found in
+    let made : (one : Decided) × Has decided one × (decided_entry one ≡ (number, entry.Done fate)) =
+    made_has decided_entry decided (number, entry.Done fate) has in
     sym (ap (λ (pair : ℕ × JobEntry). entry_at table pair.0) made.2) ∙ lists.each made.0 (contained decided made.0 made.1)
     ∙ ap (λ (pair : ℕ × JobEntry). Some pair.1) made.2
 
 -- the stage of a number that is not among the rows
-pub done_stage : (table : JobTable) (rows : List Row) (decided : List Decided) (number : ℕ) (result : JobStage) → ListsLive table rows → ListsDecided table decided
+pub done_stage : (table : JobTable) (rows : List Row) (decided : List Decided) (number : ℕ) (result : JobStage) → ListsLive table rows
+    → ListsDecided table decided
     → entry_under (map row_entry rows) number ≡ None → IsDoneStage decided number result → result ≡ stage_of_number table number
 done_stage table rows decided number (Live row) live done absent is = absurd is
-done_stage table rows decided number (Done fate) live done absent is = sym (ap (stage_under number) (is_done table decided number fate done is))
-done_stage table rows decided number Forgotten live done absent is = sym (ap (stage_under number) (nothing (entry_at table number) refl)) where
-  nothing : (found : Option JobEntry) → entry_at table number ≡ found → entry_at table number ≡ None
-  nothing None found = found
-  nothing (Some (entry.Live job state)) found = absurd (not_live table rows number live absent job state found)
-  nothing (Some (entry.Done fate)) found = absurd (not_done table decided number done is fate found)
+done_stage table rows decided number (Done fate) live done absent is =
+    sym (ap (stage_under number) (is_done table decided number fate done is))
+done_stage table rows decided number Forgotten live done absent is = sym (ap (stage_under number) (nothing (entry_at table number) refl))
+  where
+    nothing : (found : Option JobEntry) → entry_at table number ≡ found → entry_at table number ≡ None
+    nothing None found = found
+    nothing (Some (entry.Live job state)) found = absurd (not_live table rows number live absent job state found)
+    nothing (Some (entry.Done fate)) found = absurd (not_done table decided number done is fate found)

@@ -10,7 +10,7 @@ use Rattle.host_calls.specs.World.{World}
 use Rattle.listing_text.specs.declared.cause.Cause.TheVariants.{Memory}
 use Rattle.step_runs.specs.Current.{Kept}
 use Rattle.at_stat.specs.Checks.{awaited_numbers, has_live}
-use Rattle.at_stat.specs.declared.wait.TheConstants.{REST}
+use Rattle.at_stat.specs.declared.session_loop.TheConstants.{REST}
 use Rattle.at_stat.specs.OneLook.{LooksAtJobs, SpoolAt, stat_spool_at}
 
 -- the spool and the readings, at a moment

@@ -20,20 +20,20 @@
 mod awaited;
 mod checks;
 mod form;
+mod job_line;
+mod job_object;
 mod laws;
-mod line;
-mod look;
+mod lines;
 mod numbers;
-mod object;
 mod program;
 mod report;
 mod request;
 mod search;
-mod show;
+mod session;
+mod session_loop;
 mod stage;
 mod states_words;
 mod status;
-mod wait;
 mod words;
 
 pub use form::Form;

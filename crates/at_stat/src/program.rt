@@ -7,9 +7,9 @@ ghost use Rattle.at_stat.specs.StatOutcome.{HasStatEnded, SaysCause, Stating, st
 ghost use Rattle.at_stat.specs.Words.{stat_asked};
 
 use crate::StatExit;
+use crate::lines::show_states;
 use crate::request::StatRequest;
-use crate::show::show_states;
-use crate::wait::final_result;
+use crate::session_loop::final_result;
 use crate::words::stat_request;
 use civil_minute::is_unreadable;
 use host_calls::{Host, Readings, Sink};

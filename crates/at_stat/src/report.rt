@@ -5,7 +5,7 @@ ghost use Rattle.at_stat.specs.Reports.{IsReport};
 ghost use Rattle.at_stat.specs.inside.StageLines.{IsNumberPut};
 
 use crate::Form;
-use crate::line::put_state_line;
+use crate::job_line::put_state_line;
 use crate::stage::stage_of;
 use civil_minute::Zone;
 use host_calls::Bytes;

@@ -4,7 +4,7 @@
 #![tactic(auto)]
 
 use process_input::held_streams;
-use real_programs::{exit_code, run_at};
+use real_programs::{Program, UNCHECKED, exit_code, run_alone};
 use std::process::ExitCode;
 
 // The name under which is said why the tools could not begin.
@@ -13,5 +13,5 @@ const TOOL: &str = "at";
 fn main(rt: HostRuntime) -> ExitCode {
     // They stay held until the end: what is opened in between must not become a standard stream.
     let _streams = held_streams(&rt);
-    exit_code(&rt, TOOL, run_at(&rt))
+    exit_code(&rt, TOOL, run_alone(&rt, Program::Commands, UNCHECKED))
 }

@@ -19,7 +19,8 @@ abbrev pub with : Rule → App → App
 with rule app = with_rule app rule
 
 -- what the last argument makes of a command
-pub made_with : (result : Result Command AllocError) (base whole : App) (rule : Rule) → IfOk result (λ made. app_of made ≡ with_rule base rule)
+pub made_with : (result : Result Command AllocError) (base whole : App) (rule : Rule)
+    → IfOk result (λ made. app_of made ≡ with_rule base rule)
     → with_rule base rule ≡ whole → IfOk result (λ made. app_of made ≡ whole)
 made_with (Ok made) base whole rule is same = is ∙ same
 made_with (Err fault) base whole rule is same = tt
@@ -27,7 +28,8 @@ made_with (Err fault) base whole rule is same = tt
 -- where there is no word, there is none to read
 pub no_words : {W : Type 0} (text_of : W → Text) (words : List W) → (length words == 0) ≡ true → map text_of words ≡ []
 no_words text_of [] none = refl
-no_words text_of (word ∷ words) none = absurd (let length_is : length (word ∷ words) ≡ 0 = eqb-true (length (word ∷ words)) 0 none in omega arith)
+no_words text_of (word ∷ words) none =
+    absurd (let length_is : length (word ∷ words) ≡ 0 = eqb-true (length (word ∷ words)) 0 none in omega arith)
 
 module _ {T : Type 0} where
   -- where there is some fault, the answer is that the words are not taken
@@ -44,7 +46,8 @@ module _ {T : Type 0} where
 
   module _ (app : App) (asked : List Row → Result T WordsFault) (words : List Text) (made : App) (is : made ≡ app) where
     -- the words are taken, and the answer is over their matches
-    pub asks_taken : (matches : ArgMatches) (result : Result T WordsFault) → Parses made words (Ok matches) → Answers (asked (rows_of (found_of matches))) result → Answers (asked_of app asked words) result
+    pub asks_taken : (matches : ArgMatches) (result : Result T WordsFault) → Parses made words (Ok matches)
+        → Answers (asked (rows_of (found_of matches))) result → Answers (asked_of app asked words) result
     asks_taken matches result parses answers =
         let parsed = subst (λ (app : App). Parses app words (Ok matches)) is parses in
         subst (λ (kinds : Kinds). Answers (if_taken kinds (asked (matches_of app words))) result) (sym parsed.0)
@@ -59,12 +62,15 @@ module _ {T : Type 0} where
       by_fault Memory parses = tt
 
     -- and the fault is handed on
-    pub asks_fails : (fault : WordsFault) (result : Result T WordsFault) → Parses made words (Err fault) → IsErrAnd result (λ other. other ≡ fault) → Answers (asked_of app asked words) result
+    pub asks_fails : (fault : WordsFault) (result : Result T WordsFault) → Parses made words (Err fault)
+        → IsErrAnd result (λ other. other ≡ fault) → Answers (asked_of app asked words) result
     asks_fails fault (Ok value) parses handed = absurd handed
-    asks_fails fault (Err other) parses handed = subst (λ (one : WordsFault). Answers (asked_of app asked words) (Err one)) (sym handed) (asks_refused fault parses)
+    asks_fails fault (Err other) parses handed =
+        subst (λ (one : WordsFault). Answers (asked_of app asked words) (Err one)) (sym handed) (asks_refused fault parses)
 
   -- what words with a first one request
-  pub with_name : {W : Type 0} (app : App) (asked : List Row → Result T WordsFault) (text_of : W → Text) (words : List W) (result : Result T WordsFault) → (length words == 0) ≡ false
+  pub with_name : {W : Type 0} (app : App) (asked : List Row → Result T WordsFault) (text_of : W → Text) (words : List W)
+      (result : Result T WordsFault) → (length words == 0) ≡ false
       → Answers (asked_of app asked (map text_of words)) result → Answers (named_asked app asked (map text_of words)) result
   with_name app asked text_of [] result none answers = let impossible : true ≡ false = none in cc
   with_name app asked text_of (word ∷ words) result none answers = answers

@@ -23,14 +23,16 @@ beyond : (least greatest number : ℕ) → greatest < number → within least gr
 beyond least greatest number past = grind (arith, nat_tests)
 
 -- where `parse` reads a number, it is the one that the digits write
-pub decimal_in-Ok : (most least greatest : ℕ) (text : List ℕ) (number : ℕ) → are_decimal_digits most text ≡ true → ParsesUnsigned {E = ℕ} 64 10 text (Ok number) → within least greatest number ≡ decimal_in most least greatest text
+pub decimal_in-Ok : (most least greatest : ℕ) (text : List ℕ) (number : ℕ) → are_decimal_digits most text ≡ true
+    → ParsesUnsigned {E = ℕ} 64 10 text (Ok number) → within least greatest number ≡ decimal_in most least greatest text
 decimal_in-Ok most least greatest text number digits parsed =
     let parts = both (nat_le 1 (length text) && nat_le (length text) most) (list_all is_ascii_digit text) digits in
     let read = parse_digits own_numerals {E = ℕ} 64 text (Ok number) parsed parts.1 in
     rw digits (ap (within least greatest) read.1)
 
 -- where it reads none, the number is beyond each that fits
-pub decimal_in-Err : (most least greatest : ℕ) (text : List ℕ) → are_decimal_digits most text ≡ true → greatest < 2 ^ 64 → ParsesUnsigned {E = ℕ} 64 10 text (Err 0) → None ≡ decimal_in most least greatest text
+pub decimal_in-Err : (most least greatest : ℕ) (text : List ℕ) → are_decimal_digits most text ≡ true → greatest < 2 ^ 64
+    → ParsesUnsigned {E = ℕ} 64 10 text (Err 0) → None ≡ decimal_in most least greatest text
 decimal_in-Err most least greatest text digits fits parsed =
     let parts = both (nat_le 1 (length text) && nat_le (length text) most) (list_all is_ascii_digit text) digits in
     let some : 1 ≤ length text = le_true 1 (length text) (both (nat_le 1 (length text)) (nat_le (length text) most) parts.0).0 in

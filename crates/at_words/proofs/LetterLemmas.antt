@@ -26,7 +26,8 @@ use Rattle.at_words.specs.declared.when.When.{When}
 abbrev AsksByLetter : Result ToolRequest WordsFault → Type 0
 AsksByLetter asked = IfOk asked HasQueueLetter
 
-by_test : (test : Bool) (one other : Result ToolRequest WordsFault) → AsksByLetter one → AsksByLetter other → AsksByLetter (if test then one else other)
+by_test : (test : Bool) (one other : Result ToolRequest WordsFault) → AsksByLetter one → AsksByLetter other
+    → AsksByLetter (if test then one else other)
 by_test true one other first second = first
 by_test false one other first second = second
 
@@ -58,7 +59,8 @@ asked_letter (Some []) = tt
 asked_letter (Some (byte ∷ [])) = letter_by (is_ascii_alphabetic byte) byte refl
 asked_letter (Some (byte ∷ other ∷ others)) = tt
 
-submissions : (when : Option When) (queue : Option ℕ) (mail : Bool) (file : Option Text) → IsLetter queue → AsksByLetter (submit_request when queue mail file)
+submissions : (when : Option When) (queue : Option ℕ) (mail : Bool) (file : Option Text) → IsLetter queue
+    → AsksByLetter (submit_request when queue mail file)
 submissions None queue mail file letter = tt
 submissions (Some when) None mail file letter = tt
 submissions (Some when) (Some queue) mail file letter = letter
@@ -76,14 +78,17 @@ makes (Some events) = tt
 -- each tool's words
 at_letters : (rows : List Row) → AsksByLetter (at_asked rows)
 at_letters rows =
-    let listing = by_test (has_submission_words rows) (Err Usage) _ tt (listings (filter_asked (first_of (codes "queue") rows) (operands_of rows))) in
+    let listing =
+    by_test (has_submission_words rows) (Err Usage) _ tt (listings (filter_asked (first_of (codes "queue") rows) (operands_of rows))) in
     let submission =
-    submissions (when_asked (first_of (codes "time") rows) (operands_of rows)) (queue_asked (first_of (codes "queue") rows)) (is_set (codes "mail") rows)
+    submissions (when_asked (first_of (codes "time") rows) (operands_of rows)) (queue_asked (first_of (codes "queue") rows))
+    (is_set (codes "mail") rows)
     (first_of (codes "file") rows) (asked_letter (first_of (codes "queue") rows)) in
     by_test (has_two_actions rows) (Err Usage) _ tt
     (by_test (is_set (codes "list") rows) (listing_asked rows) _ listing
     (by_test (is_set (codes "remove") rows) (on_ok Remove (action_numbers rows)) _ (removals (action_numbers rows))
-    (by_test (is_set (codes "show") rows) (on_ok Show (action_numbers rows)) (submission_asked rows) (showings (action_numbers rows)) submission)))
+    (by_test (is_set (codes "show") rows) (on_ok Show (action_numbers rows)) (submission_asked rows)
+    (showings (action_numbers rows)) submission)))
 
 atd_letters : (rows : List Row) → AsksByLetter (atd_asked rows)
 atd_letters rows =
@@ -95,7 +100,8 @@ taken : (kinds : Kinds) (asked : Result ToolRequest WordsFault) → AsksByLetter
 taken [] asked letter = letter
 taken (kind ∷ kinds) asked letter = tt
 
-by_command : (app : App) (asked : List Row → Result ToolRequest WordsFault) (words : List Text) → ((rows : List Row) → AsksByLetter (asked rows)) → AsksByLetter (asked_of app asked words)
+by_command : (app : App) (asked : List Row → Result ToolRequest WordsFault) (words : List Text)
+    → ((rows : List Row) → AsksByLetter (asked rows)) → AsksByLetter (asked_of app asked words)
 by_command app asked words each = taken (fault_of app words) (asked (matches_of app words)) (each (matches_of app words))
 
 by_tool : (tool : Tool) (words : List Text) → AsksByLetter (request_to tool words)
@@ -108,6 +114,7 @@ by_tool Atd words = by_command atd_app atd_asked words atd_letters
 by_tool Atday words = by_command atday_app atday_asked words (λ rows. makes (make_asked (first_of (codes "make") rows)))
 
 -- so it is in whatever answers a tool's words
-pub answers_by_letter : (tool : Tool) (words : List Text) (result : Result ToolRequest WordsFault) → Answers (request_to tool words) result → IfOk result HasQueueLetter
+pub answers_by_letter : (tool : Tool) (words : List Text) (result : Result ToolRequest WordsFault) → Answers (request_to tool words) result
+    → IfOk result HasQueueLetter
 answers_by_letter tool words (Ok request) same = subst AsksByLetter (sym same) (by_tool tool words)
 answers_by_letter tool words (Err fault) same = tt

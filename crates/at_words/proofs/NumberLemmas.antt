@@ -11,7 +11,8 @@ neither true second none = let bad : true ≡ false = none in cc
 neither false second none = (refl, none)
 
 -- a test on a list with one element more
-any_more : (test : ℕ → Bool) (numbers : List ℕ) (number : ℕ) → list_any test numbers ≡ false → test number ≡ false → list_any test (numbers ++ number ∷ []) ≡ false
+any_more : (test : ℕ → Bool) (numbers : List ℕ) (number : ℕ) → list_any test numbers ≡ false → test number ≡ false
+    → list_any test (numbers ++ number ∷ []) ≡ false
 any_more test [] number none here = rw here refl
 any_more test (first ∷ others) number none here =
     let parts = neither (test first) (list_any test others) none in
@@ -27,7 +28,8 @@ not_true true is = let bad : false ≡ true = is in cc
 not_true false is = refl
 
 -- distinct numbers and one that isn't among them
-pub are_distinct-more : (numbers : List ℕ) (number : ℕ) → are_distinct numbers ≡ true → list_any (λ other. other == number) numbers ≡ false → are_distinct (numbers ++ number ∷ []) ≡ true
+pub are_distinct-more : (numbers : List ℕ) (number : ℕ) → are_distinct numbers ≡ true → list_any (λ other. other == number) numbers ≡ false
+    → are_distinct (numbers ++ number ∷ []) ≡ true
 are_distinct-more [] number distinct none = refl
 are_distinct-more (first ∷ others) number distinct none =
     let parts = both (not (list_any (λ other. other == first) others)) (are_distinct others) distinct in

@@ -1,5 +1,5 @@
 //! What the launcher takes from its caller, as functions of texts: tool, variables, user, zone, spool, the machine's
-//! lists. A job's environment is that of the process, with three variables set.
+//! lists. A job's environment is that of the process, with two variables set.
 #![tactic(auto)]
 
 mod digits;
@@ -24,5 +24,5 @@ pub use tool_table::{SpoolSource, Submits, TOOLS, ToolRow, row_of_tool};
 pub use tool_words::take_tool;
 pub use user_table::{home_in, name_in_user_line, user_line};
 pub use variables::{CallerSettings, job_variables};
-pub use zone_path::zone_file;
+pub use zone_path::{UTC_NAMES, is_utc_name, zone_file};
 pub use zone_rule::{MAX_RULE, MAX_ZONE_FILE, rule_in};

@@ -1,8 +1,6 @@
 //! What differs by the tool, in one table.
-ghost use Rattle.std.specs.List.{find};
-ghost use Rattle.std.specs.Prelude.{◌≡◌, Some};
-ghost use Rattle.caller_environment.specs.Tools.{name_of_tool};
-ghost use Rattle.caller_environment.specs.ToolTable.{is_row_named};
+ghost use Rattle.std.specs.Prelude.{◌≡◌};
+ghost use Rattle.caller_environment.specs.ToolTable.{IsToolRow};
 
 use crate::tool_name::ToolName;
 
@@ -34,8 +32,6 @@ pub struct ToolRow {
     /// Whether the lists of the machine say who may call it.
     pub consults_lists: bool,
     pub submits: Submits,
-    /// Whether one at a time works on a spool, until it ends.
-    pub is_daemon: bool,
 }
 
 /// The tools, each once.
@@ -45,77 +41,66 @@ pub const TOOLS: [ToolRow; 11] = [
         spool: SpoolSource::Caller,
         consults_lists: true,
         submits: Submits::ByWords,
-        is_daemon: false,
     },
     ToolRow {
         tool: ToolName::Batch,
         spool: SpoolSource::Caller,
         consults_lists: true,
-        submits: Submits::Always,
-        is_daemon: false,
+        submits: Submits::ByWords,
     },
     ToolRow {
         tool: ToolName::Atq,
         spool: SpoolSource::Caller,
         consults_lists: true,
         submits: Submits::Never,
-        is_daemon: false,
     },
     ToolRow {
         tool: ToolName::Atrm,
         spool: SpoolSource::Caller,
         consults_lists: true,
         submits: Submits::Never,
-        is_daemon: false,
     },
     ToolRow {
         tool: ToolName::Atd,
         spool: SpoolSource::Caller,
         consults_lists: false,
         submits: Submits::Never,
-        is_daemon: true,
     },
     ToolRow {
         tool: ToolName::Atday,
         spool: SpoolSource::Nothing,
         consults_lists: false,
         submits: Submits::Never,
-        is_daemon: false,
     },
     ToolRow {
         tool: ToolName::Atpost,
         spool: SpoolSource::FirstWord,
         consults_lists: false,
         submits: Submits::Never,
-        is_daemon: true,
     },
     ToolRow {
         tool: ToolName::Atcron,
         spool: SpoolSource::FirstWord,
         consults_lists: false,
         submits: Submits::Always,
-        is_daemon: true,
     },
     ToolRow {
         tool: ToolName::Ataccount,
         spool: SpoolSource::FirstWord,
         consults_lists: false,
         submits: Submits::Never,
-        is_daemon: false,
     },
     ToolRow {
         tool: ToolName::Atcheck,
         spool: SpoolSource::FirstWord,
         consults_lists: false,
         submits: Submits::Never,
-        is_daemon: false,
     },
     ToolRow {
         tool: ToolName::Atstat,
         spool: SpoolSource::Caller,
         consults_lists: true,
         submits: Submits::Never,
-        is_daemon: false,
     },
 ];
 
@@ -123,7 +108,7 @@ pub const TOOLS: [ToolRow; 11] = [
 pub fn row_of_tool(tool: ToolName) -> ToolRow
     ensures tool { result.tool ≡ tool }
     /// No other row has its name.
-    ensures alone { find (is_row_named (name_of_tool tool)) TOOLS ≡ Some result }
+    ensures alone { IsToolRow tool result }
 {
     TOOLS[tool as usize]
 }

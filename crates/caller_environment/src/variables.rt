@@ -6,19 +6,19 @@ use host_calls::Text;
 use job_script::Variables;
 use std::alloc::{AllocError, Global};
 
-/// The values of the three variables that a tool sets itself. The zone is absent where TZ stays as it is.
+/// What a tool sets itself: the values of two variables, and in which zone times are read.
 #[derive(Drop)]
 pub struct CallerSettings {
     /// PWD: the directory of the process.
     pub directory: Text,
     /// LOGNAME: the name of the user.
     pub user: Text,
-    /// TZ: the rule of the zone.
+    /// The rule of the zone; absent where it is what TZ has. A job's TZ stays as it is.
     pub zone: Option<Text>,
 }
 
-/// The variables of a job, from those of the process: each of the three that are set has its value, in its place, and all
-/// others stay, in order. One of the three that is not there comes last.
+/// The variables of a job, from those of the process: each of the two that are set has its value, in its place, and all
+/// others stay, in order, TZ too. One of the two that is not there comes last.
 pub fn job_variables(
     alloc: Global,
     variables: &[(Text, Text)],
@@ -29,7 +29,6 @@ pub fn job_variables(
     let mut made = changed_variables(alloc, variables, settings)?;
     add_absent(alloc, &mut made, variables, settings, "PWD")?;
     add_absent(alloc, &mut made, variables, settings, "LOGNAME")?;
-    add_absent(alloc, &mut made, variables, settings, "TZ")?;
     Ok(made)
 }
 
@@ -75,7 +74,7 @@ fn has_variable(variables: &[(Text, Text)], name: &str) -> bool
     variables.iter().any(|variable| variable.0.as_str() == name)
 }
 
-// The value that a variable of this name has, where it is one of the three.
+// The value that a variable of this name has, where it is one of the two.
 fn value_for<'a>(settings: &'a CallerSettings, name: &str) -> Option<&'a str>
     ensures { option_copied result ≡ value_for settings.now name.now }
 {
@@ -85,8 +84,5 @@ fn value_for<'a>(settings: &'a CallerSettings, name: &str) -> Option<&'a str>
     if name == "LOGNAME" {
         return Some(settings.user.as_str());
     }
-    match &settings.zone {
-        Some(zone) if name == "TZ" => Some(zone.as_str()),
-        _ => None,
-    }
+    None
 }

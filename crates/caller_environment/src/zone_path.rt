@@ -1,13 +1,35 @@
 //! Which file has the rule of a zone.
 ghost use Rattle.std.specs.Prelude.{◌≡◌, IfOk, option_copied};
-ghost use Rattle.caller_environment.specs.ZoneFile.{file_of_zone, has_mark, is_rule, zone_directory, zone_file, zone_name};
+ghost use Rattle.caller_environment.specs.ZoneFile.{file_of_zone, has_mark, names_contain, is_utc_name, needs_no_file, zone_directory, zone_file, zone_name};
 
 use crate::paths::joined_texts;
 use host_calls::Text;
 use std::alloc::{AllocError, Global};
 
-/// The file whose last line is the rule of the caller's zone, by TZ and TZDIR. None where TZ is kept as it is: where it is
-/// empty, UTC, or a rule with `,` or `<`.
+/// The names of UTC.
+pub const UTC_NAMES: [&str; 18] = [
+    "UTC",
+    "UTC0",
+    "UCT",
+    "GMT",
+    "GMT0",
+    "GMT+0",
+    "GMT-0",
+    "Greenwich",
+    "Universal",
+    "Zulu",
+    "Etc/UTC",
+    "Etc/UCT",
+    "Etc/GMT",
+    "Etc/GMT0",
+    "Etc/GMT+0",
+    "Etc/Greenwich",
+    "Etc/Universal",
+    "Etc/Zulu",
+];
+
+/// The file whose last line is the rule of the caller's zone, by TZ and TZDIR. None where TZ alone says it: where it is
+/// empty, a name of UTC, or a rule with `,` or `<`.
 pub fn zone_file(
     alloc: Global,
     zone: Option<&str>,
@@ -17,15 +39,28 @@ pub fn zone_file(
 {
     match zone {
         None => Ok(Some(Text::of(alloc, "/etc/localtime")?)),
-        Some(zone) if is_rule(zone) => Ok(None),
+        Some(zone) if needs_no_file(zone) => Ok(None),
         Some(zone) => Ok(Some(file_of_zone(alloc, zone, zone_directory(directory))?)),
     }
 }
 
-fn is_rule(zone: &str) -> bool
-    ensures { result ≡ is_rule zone.now }
+fn needs_no_file(zone: &str) -> bool
+    ensures { result ≡ needs_no_file zone.now }
 {
-    zone.is_empty() || zone == "UTC" || has_mark(zone.as_bytes())
+    zone.is_empty() || is_utc_name(zone) || has_mark(zone.as_bytes())
+}
+
+/// Whether TZ has a name of UTC.
+pub fn is_utc_name(zone: &str) -> bool
+    ensures { result ≡ is_utc_name zone.now }
+{
+    names_contain(&UTC_NAMES, zone_name(zone))
+}
+
+fn names_contain(names: &[&str], text: &str) -> bool
+    ensures { result ≡ names_contain names.now text.now }
+{
+    names.iter().any(|name| *name == text)
 }
 
 fn has_mark(zone: &[u8]) -> bool

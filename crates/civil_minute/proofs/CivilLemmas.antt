@@ -26,7 +26,8 @@ local_time zone at local shows = record {
 }
 
 -- the same second, computed in another way
-pub local_time-same : {zone : Zone} {at : ℤ} {local : DateTime} (second : ℤ) → at ≡ second → IsLocalTime zone at local → IsLocalTime zone second local
+pub local_time-same : {zone : Zone} {at : ℤ} {local : DateTime} (second : ℤ) → at ≡ second → IsLocalTime zone at local
+    → IsLocalTime zone second local
 local_time-same {zone} {at} {local} second same shows = subst (λ s. IsLocalTime zone s local) same shows
 
 -- a zone is at most 25:59:59 east or west of UTC
@@ -43,7 +44,8 @@ pub year_bound : (date : Date) (year : ℤ) → days_from_civil year 1 1 ≤ℤ 
 unfolding days_from_civil
 year_bound date year from =
     by_lt_z date.year year
-    (λ before. let less = day_count-lt_year date.year date.month date.day year 1 1 (civil date) (lit≤ tt) before in absurd (omega (arith, signed_arith)))
+    (λ before. let less = day_count-lt_year date.year date.month date.day year 1 1 (civil date) (lit≤ tt) before in
+    absurd (omega (arith, signed_arith)))
     (λ after. after)
 
 -- 1 January of the year 1000
@@ -57,7 +59,11 @@ shown_date local shown s = rw (s.year, s.month, s.day) (civil local.date)
 
 shown_time : (local : DateTime) (shown : CivilMinute) → HasFields local shown → IsClockTime shown
 shown_time local shown s =
-    record { hour = omega (arith, local.time.hour_in); minute = omega (arith, local.time.minute_in); second = omega (arith, local.time.second_in) }
+    record {
+      hour = omega (arith, local.time.hour_in);
+      minute = omega (arith, local.time.minute_in);
+      second = omega (arith, local.time.second_in);
+    }
 
 shown_day : (local : DateTime) (shown : CivilMinute) → HasFields local shown → day_of shown ≡ epoch_day local.date
 shown_day local shown s = rw (s.year, s.month, s.day)

@@ -23,11 +23,13 @@ past_9999 : (year : ℤ) (month day : ℕ) → 1 ≤ day → pos 9999 <ℤ year 
 unfolding days_from_civil
 past_9999 year month day some later =
     let last = days_from_civil-max in
-    let less = day_count-lt_year (pos 9999) 12 31 year month day ((omega (arith, signed_arith), omega (arith, signed_arith)), (lit≤ tt, lit≤ tt), (lit≤ tt, lit≤ tt)) some later in
+    let less = day_count-lt_year (pos 9999) 12 31 year month day
+    ((omega (arith, signed_arith), omega (arith, signed_arith)), (lit≤ tt, lit≤ tt), (lit≤ tt, lit≤ tt)) some later in
     omega (arith, signed_arith)
 
 -- a later month of a later year than the calendar has
-year_past : (year y : ℤ) (month m months : ℕ) → year *ℤ pos 12 +ℤ pos (month - 1) +ℤ pos months ≡ y *ℤ pos 12 +ℤ pos (m - 1) → 1 ≤ m → m ≤ 12
+year_past : (year y : ℤ) (month m months : ℕ)
+    → year *ℤ pos 12 +ℤ pos (month - 1) +ℤ pos months ≡ y *ℤ pos 12 +ℤ pos (m - 1) → 1 ≤ m → m ≤ 12
     → IsYear year → ¬ (IsYear y) → pos 9999 <ℤ y
 year_past year y month m months number some twelve before after =
     by_lt_z (pos 9999) y (λ past. past) (λ within. absurd (after (omega (arith, signed_arith), within)))
@@ -40,8 +42,10 @@ leaves_calendar date months leaves within =
     let length = (days_in_month_bounds (shifted_year date (pos months)) (shifted_month date (pos months))).1 in
     let day : 1 ≤ shifted_day date (pos months) = omega (arith, date.day_in) in
     let later : pos 9999 <ℤ shifted_year date (pos months) =
-    year_past date.year (shifted_year date (pos months)) date.month (shifted_month date (pos months)) months number month.0 month.1 date.year_in leaves in
-    let past : pos 2_932_896 <ℤ add_months date (pos months) = past_9999 (shifted_year date (pos months)) (shifted_month date (pos months)) (shifted_day date (pos months)) day later in
+    year_past date.year (shifted_year date (pos months)) date.month (shifted_month date (pos months)) months number month.0
+    month.1 date.year_in leaves in
+    let past : pos 2_932_896 <ℤ add_months date (pos months) =
+    past_9999 (shifted_year date (pos months)) (shifted_month date (pos months)) (shifted_day date (pos months)) day later in
     absurd (omega (arith, signed_arith))
 
 -- 300,001 months lead out of the years from any date

@@ -73,10 +73,12 @@ module _ (Notes : Cause → (List ℕ → Type 0) → SinkAt → SinkAt → Type
   refused_has_no_step asked caller tells before after cause refusal known refused =
       elim (crashes_leave_prefixes asked caller tells before after cause known) [
         | inl unbegun ↦ inl unbegun
-        | inr begun ↦ inr (begun.0, refused_begun asked caller known.ends.found before.spool after.spool refusal begun.0 begun.1 refused begun.2 begun.3)
+        | inr begun ↦ inr
+            (begun.0, refused_begun asked caller known.ends.found before.spool after.spool refusal begun.0 begun.1 refused begun.2 begun.3)
       ]
 
   pub done_holds : FinishedWorkIsKept Notes
   done_holds asked caller tells before after known =
-      let achieved : Achieves (AreAskedSteps asked caller known.ends.found) before.spool after.spool = known.ends.spool known.files known.alone in
+      let achieved : Achieves (AreAskedSteps asked caller known.ends.found) before.spool after.spool =
+      known.ends.spool known.files known.alone in
       (achieved.0, achieved.1, achieved.3.begun.shown, achieved.2, achieved.3.whole)

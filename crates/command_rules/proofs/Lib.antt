@@ -2,3 +2,4 @@ pub mod CheckLemmas
 pub mod LawLemmas
 pub mod SessionLemmas
 pub mod SpoolLemmas
+pub mod UserLemmas

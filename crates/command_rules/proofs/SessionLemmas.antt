@@ -21,7 +21,8 @@ module _ (AreSteps : JobTable → List Step → Type 0) (old middle new : World)
   pub holds_still : new ≡ middle → Achieves AreNoSteps old new
   holds_still same =
       let achieved : IsAchieved table [] old middle =
-      made_steps_are_achieved table [] [] [] kept old middle middle is.shown is.changes is.others (no_steps_are_made table kept middle is.current) in
+      made_steps_are_achieved table [] [] [] kept old middle middle is.shown is.changes is.others
+      (no_steps_are_made table kept middle is.current) in
       (table, [], refl, subst (IsAchieved table [] old) (sym same) achieved)
 
   still : new ≡ middle → Attempts (OrNone AreSteps) old new
@@ -38,7 +39,12 @@ module _ (AreSteps : JobTable → List Step → Type 0) (old middle new : World)
   worked_on : (new ≡ middle) ⊎ IsWorkedOn AreSteps table middle new → Attempts (OrNone AreSteps) old new
   worked_on either = elim either [
     | inl same ↦ still same
-    | inr worked ↦ inr (table, worked.steps, inl worked.are, runs_after_recoveries table worked.steps old middle new is.shown is.changes worked.legal worked.run)
+    | inr worked ↦ inr (
+      table,
+      worked.steps,
+      inl worked.are,
+      runs_after_recoveries table worked.steps old middle new is.shown is.changes worked.legal worked.run,
+    )
   ]
 
   pub works_end : (cause : Cause) → CommandWorks AreSteps table middle new cause → SpoolEnds AreSteps old new cause

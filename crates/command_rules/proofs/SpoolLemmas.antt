@@ -23,11 +23,13 @@ unbegun_same old new same =
     subst (IsUnbegun old) (sym same) (recoveries_begin_nothing old old (changes_none (ShowsAsBefore old.now.directory) old))
 
 -- what is achieved was begun
-attempt_achieved : (AreSteps : JobTable → List Step → Type 0) (old new : World) → Achieves AreSteps old new → Attempts (OrNone AreSteps) old new
+attempt_achieved : (AreSteps : JobTable → List Step → Type 0) (old new : World) → Achieves AreSteps old new
+    → Attempts (OrNone AreSteps) old new
 attempt_achieved AreSteps old new achieved = inr (achieved.0, achieved.1, inl achieved.2, achieved.3.begun)
 
 -- also without a step
-pub without_steps : (AreSteps : JobTable → List Step → Type 0) (old new : World) → Achieves AreNoSteps old new → Attempts (OrNone AreSteps) old new
+pub without_steps : (AreSteps : JobTable → List Step → Type 0) (old new : World) → Achieves AreNoSteps old new
+    → Attempts (OrNone AreSteps) old new
 without_steps AreSteps old new achieved = inr (achieved.0, achieved.1, inr achieved.2, achieved.3.begun)
 
 -- after a refusal the spool is as it was, or shows the table without a step
@@ -42,7 +44,8 @@ refusal_left refusal old new leaves = refusal_cases (is_earlier_check of_spool (
 -- after no steps the directory shows what it showed
 pub shown_as_before : (old new : World) → Achieves AreNoSteps old new → shown_by (reading new) ≡ shown_by (reading old)
 shown_as_before old new achieved =
-    let whole : IsAchieved achieved.0 [] old new = subst (λ (steps : List Step). IsAchieved achieved.0 steps old new) achieved.2 achieved.3 in
+    let whole : IsAchieved achieved.0 [] old new =
+    subst (λ (steps : List Step). IsAchieved achieved.0 steps old new) achieved.2 achieved.3 in
     whole.whole (reading new) (reading_is_image new.now.directory) ∙ sym whole.begun.shown
 
 attempt_refused : (AreSteps : JobTable → List Step → Type 0) (refusal : Refusal) (old new : World) → RefusalLeaves refusal old new →

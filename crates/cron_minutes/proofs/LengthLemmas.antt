@@ -21,12 +21,14 @@ parts_length [] = let none : 0 ≤ 4 * 0 = omega arith in none
 parts_length (byte ∷ value) =
     let joined : length (quoted_part byte ++ flat_map quoted_part value) ≡ length (quoted_part byte) + length (flat_map quoted_part value) =
     length-append (quoted_part byte) (flat_map quoted_part value) in
-    let few : length (quoted_part byte ++ flat_map quoted_part value) ≤ 4 * suc (length value) = omega (arith, joined, part_length byte, parts_length value) in
+    let few : length (quoted_part byte ++ flat_map quoted_part value) ≤ 4 * suc (length value) =
+    omega (arith, joined, part_length byte, parts_length value) in
     few
 
 quoted_length : (value : List ℕ) → length (quoted value) ≤ 4 * length value + 2
 quoted_length value =
-    let joined : length (flat_map quoted_part value ++ 39 ∷ []) ≡ length (flat_map quoted_part value) + 1 = length-append (flat_map quoted_part value) (39 ∷ []) in
+    let joined : length (flat_map quoted_part value ++ 39 ∷ []) ≡ length (flat_map quoted_part value) + 1 =
+    length-append (flat_map quoted_part value) (39 ∷ []) in
     let few : suc (length (flat_map quoted_part value ++ 39 ∷ [])) ≤ 4 * length value + 2 = omega (arith, joined, parts_length value) in
     few
 
@@ -57,18 +59,23 @@ first_length (Cut ∷ later) = let none : 0 ≤ suc (length later) = omega arith
 after_length : (of others : List Piece) → after_cut of ≡ Some others → length others ≤ length of
 unfolding after_cut
 after_length [] others is = cc
-after_length (Byte byte ∷ later) others is = let few : length others ≤ suc (length later) = omega (arith, after_length later others is) in few
+after_length (Byte byte ∷ later) others is =
+    let few : length others ≤ suc (length later) = omega (arith, after_length later others is) in
+    few
 after_length (Cut ∷ later) others is =
     let same : later ≡ others = cc in
     let few : length later ≤ suc (length later) = omega arith in
     subst (λ (l : List Piece). length l ≤ suc (length later)) same few
 
-piped_length : (first : List ℕ) (lines : List (List ℕ)) (count : ℕ) → length (flat_map with_newline lines) ≡ count → length (piped first lines) ≤ length first + 4 * count + 20
+piped_length : (first : List ℕ) (lines : List (List ℕ)) (count : ℕ) → length (flat_map with_newline lines) ≡ count
+    → length (piped first lines) ≤ length first + 4 * count + 20
 piped_length first lines count is =
     let word : List ℕ = quoted (flat_map with_newline lines) in
     let ends : length (first ++ codes "\n}\n") ≡ length first + 3 = length-append first (codes "\n}\n") in
-    let last : length (codes " | {\n" ++ (first ++ codes "\n}\n")) ≡ 5 + length (first ++ codes "\n}\n") = length-append (codes " | {\n") (first ++ codes "\n}\n") in
-    let after : length (word ++ (codes " | {\n" ++ (first ++ codes "\n}\n"))) ≡ length word + length (codes " | {\n" ++ (first ++ codes "\n}\n")) =
+    let last : length (codes " | {\n" ++ (first ++ codes "\n}\n")) ≡ 5 + length (first ++ codes "\n}\n") =
+    length-append (codes " | {\n") (first ++ codes "\n}\n") in
+    let after : length (word ++ (codes " | {\n" ++ (first ++ codes "\n}\n")))
+    ≡ length word + length (codes " | {\n" ++ (first ++ codes "\n}\n")) =
     length-append word (codes " | {\n" ++ (first ++ codes "\n}\n")) in
     let all : length (piped first lines) ≡ 10 + length (word ++ (codes " | {\n" ++ (first ++ codes "\n}\n"))) =
     length-append (codes "printf %s ") (word ++ (codes " | {\n" ++ (first ++ codes "\n}\n"))) in
@@ -83,8 +90,10 @@ pieces_commands_length of = by_cut (after_cut of) refl where
       let joined : length (first_part of ++ 10 ∷ []) ≡ length (first_part of) + 1 = length-append (first_part of) (10 ∷ []) in
       subst (λ (made : List ℕ). length made ≤ 5 * length of + 30) alone (omega (arith, joined, first_length of))
   by_cut (Some others) is =
-      let with_input : piped (first_part of) (parts others) ≡ commands_of_parts (parts of) = commands-piped of others (first_part of) (sym is) refl in
-      let counted : length (flat_map with_newline (parts others)) ≡ length others + 1 = ap length (sym (input-lines others)) ∙ input_length others in
+      let with_input : piped (first_part of) (parts others) ≡ commands_of_parts (parts of) =
+      commands-piped of others (first_part of) (sym is) refl in
+      let counted : length (flat_map with_newline (parts others)) ≡ length others + 1 = ap length (sym (input-lines others))
+      ∙ input_length others in
       subst (λ (made : List ℕ). length made ≤ 5 * length of + 30) with_input
       (omega (arith, piped_length (first_part of) (parts others) (length others + 1) counted, first_length of, after_length of others is))
 

@@ -17,5 +17,6 @@ pub used_up_is_none : {T : Type 0} → IsErrOf {T = T} {E = StoreFault} (Err Num
 used_up_is_none is = cc
 
 -- whatever the value would have been
-pub same_fault : {T U : Type 0} (of : StoreFault) → IsErrOf {T = T} {E = StoreFault} (Err of) FileFault → IsErrOf {T = U} {E = StoreFault} (Err of) FileFault
+pub same_fault : {T U : Type 0} (of : StoreFault) → IsErrOf {T = T} {E = StoreFault} (Err of) FileFault
+    → IsErrOf {T = U} {E = StoreFault} (Err of) FileFault
 same_fault of is = let same : of ≡ FileFault = cc in ap (λ (one : StoreFault). Err one) same

@@ -20,9 +20,12 @@ use Rattle.cron_session.specs.Mark.{BeginsMark, IsLongestStart, IsMarkText}
 fold_grows : (number : ℕ) (digits : List ℕ) → number * 16 ^ length digits ≤ fold (λ value byte. value * 16 + digit_value byte) number digits
 fold_grows number [] = omega arith
 fold_grows number (byte ∷ later) =
-    let moved : number * 16 ^ suc (length later) ≡ number * 16 * 16 ^ length later = ap (λ p. number * p) (pow-succ' 16 (length later)) ∙ sym (mul_assoc number 16 (16 ^ length later)) in
-    let less : number * 16 * 16 ^ length later ≤ (number * 16 + digit_value byte) * 16 ^ length later = mul-le-mul_right (16 ^ length later) (omega arith) in
-    let more : (number * 16 + digit_value byte) * 16 ^ length later ≤ fold (λ value byte. value * 16 + digit_value byte) (number * 16 + digit_value byte) later = fold_grows (number * 16 + digit_value byte) later in
+    let moved : number * 16 ^ suc (length later) ≡ number * 16 * 16 ^ length later = ap (λ p. number * p) (pow-succ' 16 (length later))
+    ∙ sym (mul_assoc number 16 (16 ^ length later)) in
+    let less : number * 16 * 16 ^ length later ≤ (number * 16 + digit_value byte) * 16 ^ length later =
+    mul-le-mul_right (16 ^ length later) (omega arith) in
+    let more : (number * 16 + digit_value byte) * 16 ^ length later ≤ fold (λ value byte. value * 16 + digit_value byte)
+    (number * 16 + digit_value byte) later = fold_grows (number * 16 + digit_value byte) later in
     omega (arith, moved, less, more)
 
 -- with zeros it is that
@@ -36,62 +39,83 @@ fold_zeros number (suc count) =
     ∙ ap (λ p. number * p) (sym (pow-succ' 16 count))
 
 -- digits start a mark where they are of a minute of the clock with zeros after them
-mark_from : (bytes : List ℕ) (number : ℕ) → SpellsNumber bytes number → length bytes ≤ 8 → number * 16 ^ (8 - length bytes) ≤ 4222846079 → BeginsMark bytes
+mark_from : (bytes : List ℕ) (number : ℕ) → SpellsNumber bytes number → length bytes ≤ 8
+    → number * 16 ^ (8 - length bytes) ≤ 4222846079 → BeginsMark bytes
 mark_from bytes number spelled few low =
     let count : ℕ = 8 - length bytes in
     let zeros : List ℕ = replicate count 48 in
     let minute : ℕ = number * 16 ^ count in
-    let digits : are_digits (bytes ++ zeros) ≡ true = list_all-append is_digit bytes zeros ∙ and_from (are_digits bytes) (are_digits zeros) (spelled_digits bytes number spelled) (zeros_digits count) in
+    let digits : are_digits (bytes ++ zeros) ≡ true = list_all-append is_digit bytes zeros
+    ∙ and_from (are_digits bytes) (are_digits zeros) (spelled_digits bytes number spelled) (zeros_digits count) in
     let value : value_of_digits (bytes ++ zeros) ≡ minute = fold-append (λ value byte. value * 16 + digit_value byte) 0 bytes zeros
     ∙ ap (λ n. fold (λ value byte. value * 16 + digit_value byte) n zeros) (value_spelled bytes number spelled) ∙ fold_zeros number count in
     let whole : SpellsNumber (bytes ++ zeros) minute = subst (SpellsNumber (bytes ++ zeros)) value (digits_spell (bytes ++ zeros) digits) in
     let counted : length (bytes ++ zeros) ≡ 8 = omega (arith, length-append bytes zeros, length-replicate {A = ℕ} count 48) in
     let is : bytes ++ zeros ≡ digits_of minute = (spelled_eight (bytes ++ zeros) minute counted whole).1 in
-    record { minute = minute; minute_is = low; rest = zeros ++ 10 ∷ []; text = ap (λ list. list ++ 10 ∷ []) (sym is) ∙ append_assoc bytes zeros (10 ∷ []) }
+    record {
+      minute = minute;
+      minute_is = low;
+      rest = zeros ++ 10 ∷ [];
+      text = ap (λ list. list ++ 10 ∷ []) (sym is) ∙ append_assoc bytes zeros (10 ∷ []);
+    }
 
 -- the digits of a mark that starts with few bytes start with them
-digits_begun : (bytes : List ℕ) (mark : BeginsMark bytes) → length bytes ≤ 8 → digits_of mark.minute ≡ bytes ++ drop (length bytes) (digits_of mark.minute)
+digits_begun : (bytes : List ℕ) (mark : BeginsMark bytes) → length bytes ≤ 8
+    → digits_of mark.minute ≡ bytes ++ drop (length bytes) (digits_of mark.minute)
 digits_begun bytes mark few =
     let digits : List ℕ = digits_of mark.minute in
-    let taken : take (length bytes) digits ≡ bytes = sym (take-append-le (length bytes) digits (10 ∷ []) few) ∙ ap (take (length bytes)) mark.text ∙ take-append_seam bytes mark.rest in
+    let taken : take (length bytes) digits ≡ bytes = sym (take-append-le (length bytes) digits (10 ∷ []) few)
+    ∙ ap (take (length bytes)) mark.text ∙ take-append_seam bytes mark.rest in
     sym (take-append-drop (length bytes) digits) ∙ ap (λ list. list ++ drop (length bytes) digits) taken
 
 -- what starts a mark are digits, and of a minute of the clock with zeros after them
-mark_spells : (bytes : List ℕ) → length bytes ≤ 8 → BeginsMark bytes → SpellsNumber bytes (value_of_digits bytes) × (value_of_digits bytes * 16 ^ (8 - length bytes) ≤ 4222846079)
+mark_spells : (bytes : List ℕ) → length bytes ≤ 8 → BeginsMark bytes
+    → SpellsNumber bytes (value_of_digits bytes) × (value_of_digits bytes * 16 ^ (8 - length bytes) ≤ 4222846079)
 mark_spells bytes few mark =
     let digits : List ℕ = digits_of mark.minute in
     let after : List ℕ = drop (length bytes) digits in
     let begun : digits ≡ bytes ++ after = digits_begun bytes mark few in
     let low : mark.minute ≤ 4222846079 = mark.minute_is in
     let spelled : SpellsNumber digits mark.minute = digits_spelled mark.minute (omega arith) in
-    let all : are_digits (bytes ++ after) ≡ true = subst (λ list. are_digits list ≡ true) begun (spelled_digits digits mark.minute spelled) in
-    let mine : are_digits bytes ≡ true = (and_parts (are_digits bytes) (are_digits after) (sym (list_all-append is_digit bytes after) ∙ all)).0 in
+    let all : are_digits (bytes ++ after) ≡ true =
+    subst (λ list. are_digits list ≡ true) begun (spelled_digits digits mark.minute spelled) in
+    let mine : are_digits bytes ≡ true =
+    (and_parts (are_digits bytes) (are_digits after) (sym (list_all-append is_digit bytes after) ∙ all)).0 in
     let value : fold (λ value byte. value * 16 + digit_value byte) (value_of_digits bytes) after ≡ mark.minute =
-    sym (fold-append (λ value byte. value * 16 + digit_value byte) 0 bytes after) ∙ ap value_of_digits (sym begun) ∙ value_spelled digits mark.minute spelled in
+    sym (fold-append (λ value byte. value * 16 + digit_value byte) 0 bytes after) ∙ ap value_of_digits (sym begun)
+    ∙ value_spelled digits mark.minute spelled in
     let lengths : 8 ≡ length bytes + length after = ap length begun ∙ length-append bytes after in
     let counted : length after ≡ 8 - length bytes = omega arith in
-    let grows : value_of_digits bytes * 16 ^ length after ≤ fold (λ value byte. value * 16 + digit_value byte) (value_of_digits bytes) after = fold_grows (value_of_digits bytes) after in
-    let less : value_of_digits bytes * 16 ^ length after ≤ mark.minute = subst (λ n. value_of_digits bytes * 16 ^ length after ≤ n) value grows in
+    let grows : value_of_digits bytes * 16 ^ length after
+    ≤ fold (λ value byte. value * 16 + digit_value byte) (value_of_digits bytes) after = fold_grows (value_of_digits bytes) after in
+    let less : value_of_digits bytes * 16 ^ length after ≤ mark.minute =
+    subst (λ n. value_of_digits bytes * 16 ^ length after ≤ n) value grows in
     let small : value_of_digits bytes * 16 ^ length after ≤ 4222846079 = omega (arith, less, low) in
     (digits_spell bytes mine, subst (λ count. value_of_digits bytes * 16 ^ count ≤ 4222846079) counted small)
 
 -- what is no more than the first digits of a number is so with zeros after it, and the other way round
 shifted : (number count : ℕ) → (number ≤ 4222846079 / 2 ^ (4 * count)) ↔ (number * 16 ^ count ≤ 4222846079)
-shifted number count = subst (λ power. (number ≤ 4222846079 / 2 ^ (4 * count)) ↔ (number * power ≤ 4222846079)) (sym (power_of_two count)) (le-div_iff_mul-le (pow_pos (4 * count)))
+shifted number count = subst (λ power. (number ≤ 4222846079 / 2 ^ (4 * count)) ↔ (number * power ≤ 4222846079)) (sym (power_of_two count))
+    (le-div_iff_mul-le (pow_pos (4 * count)))
 
 test_le : (first second : ℕ) → IsTrue (nat_le first second) ↔ (first ≤ second)
 test_le first second = (λ is. grind (arith, nat_tests), λ less. grind (arith, nat_tests))
 
 -- the test of digits
-pub digits_start : (bytes : List ℕ) (number : ℕ) → SpellsNumber bytes number → length bytes ≤ 8 → IsTrue (nat_le number (4222846079 / 2 ^ (4 * (8 - length bytes)))) ↔ BeginsMark bytes
-digits_start bytes number spelled few = (λ is. from ((test_le number (4222846079 / 2 ^ (4 * (8 - length bytes)))).0 is), λ mark. (test_le number (4222846079 / 2 ^ (4 * (8 - length bytes)))).1 (to mark)) where
-  from : number ≤ 4222846079 / 2 ^ (4 * (8 - length bytes)) → BeginsMark bytes
-  from less = mark_from bytes number spelled few ((shifted number (8 - length bytes)).0 less)
+pub digits_start : (bytes : List ℕ) (number : ℕ) → SpellsNumber bytes number → length bytes ≤ 8
+    → IsTrue (nat_le number (4222846079 / 2 ^ (4 * (8 - length bytes)))) ↔ BeginsMark bytes
+digits_start bytes number spelled few = (
+  λ is. from ((test_le number (4222846079 / 2 ^ (4 * (8 - length bytes)))).0 is),
+  λ mark. (test_le number (4222846079 / 2 ^ (4 * (8 - length bytes)))).1 (to mark),
+)
+  where
+    from : number ≤ 4222846079 / 2 ^ (4 * (8 - length bytes)) → BeginsMark bytes
+    from less = mark_from bytes number spelled few ((shifted number (8 - length bytes)).0 less)
 
-  to : BeginsMark bytes → number ≤ 4222846079 / 2 ^ (4 * (8 - length bytes))
-  to mark =
-      let same : value_of_digits bytes ≡ number = value_spelled bytes number spelled in
-      (shifted number (8 - length bytes)).1 (subst (λ n. n * 16 ^ (8 - length bytes) ≤ 4222846079) same (mark_spells bytes few mark).1)
+    to : BeginsMark bytes → number ≤ 4222846079 / 2 ^ (4 * (8 - length bytes))
+    to mark =
+        let same : value_of_digits bytes ≡ number = value_spelled bytes number spelled in
+        (shifted number (8 - length bytes)).1 (subst (λ n. n * 16 ^ (8 - length bytes) ≤ 4222846079) same (mark_spells bytes few mark).1)
 
 pub never : {P : Type 0} → false ≡ true → P
 never wrong = cc
@@ -105,8 +129,10 @@ no_rest [] none = refl
 no_rest (first ∷ later) none = absurd (omega arith)
 
 -- more than eight bytes start a mark where they are all of it
-pub long_start : (bytes : List ℕ) (found : Option ℕ) → 8 < length bytes → IfSome found (IsMarkText bytes) → IfNone found ((minute : ℕ) → ¬ (IsMarkText bytes minute)) → IsTrue (is_some found) ↔ BeginsMark bytes
-long_start bytes (Some minute) long is none = (λ _. record { minute = minute; minute_is = is.minute_is; rest = []; text = sym is.text_is ∙ sym (append-nil bytes) }, λ _. refl)
+pub long_start : (bytes : List ℕ) (found : Option ℕ) → 8 < length bytes → IfSome found (IsMarkText bytes)
+    → IfNone found ((minute : ℕ) → ¬ (IsMarkText bytes minute)) → IsTrue (is_some found) ↔ BeginsMark bytes
+long_start bytes (Some minute) long is none =
+    (λ _. record { minute = minute; minute_is = is.minute_is; rest = []; text = sym is.text_is ∙ sym (append-nil bytes) }, λ _. refl)
 long_start bytes None long is none = (never, λ mark. absurd (none mark.minute (whole mark))) where
   whole : (mark : BeginsMark bytes) → IsMarkText bytes mark.minute
   whole mark =
@@ -121,12 +147,14 @@ start_less bytes less more order mark = record {
   minute_is = mark.minute_is;
   rest = drop less (take more bytes) ++ mark.rest;
   text = mark.text
-      ∙ ap (λ list. list ++ mark.rest) (sym (take-append-drop less (take more bytes)) ∙ ap (λ list. list ++ drop less (take more bytes)) (take-take less more bytes order))
+      ∙ ap (λ list. list ++ mark.rest) (sym (take-append-drop less (take more bytes))
+      ∙ ap (λ list. list ++ drop less (take more bytes)) (take-take less more bytes order))
       ∙ append_assoc (take less bytes) (drop less (take more bytes)) mark.rest;
 }
 
 -- the longest start is the one that can't be made longer
-pub longest_so : (bytes : List ℕ) (place : ℕ) → place < length bytes → BeginsMark (take place bytes) → ¬ (BeginsMark (take (place + 1) bytes)) → IsLongestStart bytes place
+pub longest_so : (bytes : List ℕ) (place : ℕ) → place < length bytes → BeginsMark (take place bytes)
+    → ¬ (BeginsMark (take (place + 1) bytes)) → IsLongestStart bytes place
 longest_so bytes place inside begins no_more = record {
   within = omega arith;
   begins = begins;
@@ -146,18 +174,22 @@ pub spelled_of : (digits : List ℕ) (minute : ℕ) → minute ≤ 4222846079 �
 spelled_of digits minute low is = subst (λ list. SpellsNumber list minute) (sym is) (digits_spelled minute (omega arith))
 
 -- digits that spell a number above the last minute are of no minute
-pub too_late : (digits : List ℕ) (number minute : ℕ) → SpellsNumber digits number → 4222846079 < number → minute ≤ 4222846079 → digits ≡ digits_of minute → ⊥
+pub too_late : (digits : List ℕ) (number minute : ℕ) → SpellsNumber digits number → 4222846079 < number → minute ≤ 4222846079
+    → digits ≡ digits_of minute → ⊥
 too_late digits number minute spelled late low is =
     let same : number ≡ minute = one_number digits number minute spelled (spelled_of digits minute low is) in
     absurd (omega arith)
 
 -- and so is the text of a mark
-pub text_of : (digits bytes : List ℕ) (found : Option ℕ) → bytes ≡ digits ++ 10 ∷ [] → IfSome found (λ minute. (minute ≤ 4222846079) × (digits ≡ digits_of minute)) → IfSome found (IsMarkText bytes)
+pub text_of : (digits bytes : List ℕ) (found : Option ℕ) → bytes ≡ digits ++ 10 ∷ []
+    → IfSome found (λ minute. (minute ≤ 4222846079) × (digits ≡ digits_of minute)) → IfSome found (IsMarkText bytes)
 text_of digits bytes (Some minute) is found = record { minute_is = found.0; text_is = is ∙ ap (λ list. list ++ 10 ∷ []) found.1 }
 text_of digits bytes None is found = tt
 
 -- nine bytes, of which the last is a newline
-pub nine_bytes : (bytes : List ℕ) → 9 ≤ length bytes → length bytes < 10 → slice_index bytes 8 ≡ 10 → bytes ≡ slice_index bytes 0 ∷ slice_index bytes 1 ∷ slice_index bytes 2 ∷ slice_index bytes 3 ∷ slice_index bytes 4 ∷ slice_index bytes 5 ∷ slice_index bytes 6 ∷ slice_index bytes 7 ∷ 10 ∷ []
+pub nine_bytes : (bytes : List ℕ) → 9 ≤ length bytes → length bytes < 10 → slice_index bytes 8 ≡ 10
+    → bytes ≡ slice_index bytes 0 ∷ slice_index bytes 1 ∷ slice_index bytes 2 ∷ slice_index bytes 3 ∷ slice_index bytes 4
+    ∷ slice_index bytes 5 ∷ slice_index bytes 6 ∷ slice_index bytes 7 ∷ 10 ∷ []
 nine_bytes [] low high last = absurd (omega arith)
 nine_bytes (a ∷ []) low high last = absurd (omega arith)
 nine_bytes (a ∷ b ∷ []) low high last = absurd (omega arith)

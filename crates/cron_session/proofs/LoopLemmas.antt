@@ -33,9 +33,11 @@ submits_at tells before after old new kept jobs was is fault (Ok done) same subm
 submits_at tells before after old new kept jobs was is fault (Err other) same submits =
     subst (λ (of : StoreFault). SubmitsAll tells before after old new kept jobs was is (Err of)) (sym same) submits
 
-module _ (tells : Bool) (before between : Session) (old here : World) (kept store : Kept) (context : Context) (minute : ℕ) (due : List (List ℕ)) where
+module _ (tells : Bool) (before between : Session) (old here : World) (kept store : Kept) (context : Context) (minute : ℕ)
+    (due : List (List ℕ)) where
   -- all were submitted
-  pub all_submitted : (place : ℕ) (was is : List ℕ) → place ≡ length due → StaysInside before between → before.file_faults ≤ between.file_faults →
+  pub all_submitted : (place : ℕ) (was is : List ℕ) → place ≡ length due → StaysInside before between
+      → before.file_faults ≤ between.file_faults →
       is ≡ was ++ next_numbers kept.table.last place →
       AllSoFar tells kept store (cron_jobs context minute due) (cron_jobs context minute (take place due)) old here →
       SubmitsAll tells before between old here kept (cron_jobs context minute due) was is (Ok tt)
@@ -44,7 +46,8 @@ module _ (tells : Bool) (before between : Session) (old here : World) (kept stor
     faults = tt;
     part = record { made = jobs; next = []; later = [] };
     is_part = record { are = sym (append-nil jobs); few = omega arith; all = refl };
-    written = written ∙ ap (λ (count : ℕ). was ++ next_numbers kept.table.last count) (whole ∙ sym (length-map due (cron_job context minute)));
+    written = written
+        ∙ ap (λ (count : ℕ). was ++ next_numbers kept.table.last count) (whole ∙ sym (length-map due (cron_job context minute)));
     leaves = λ known table current.
         let at : SoFar table jobs jobs store old here =
         subst (λ (first : List Job). SoFar table jobs first store old here)
@@ -86,7 +89,8 @@ module _ (tells : Bool) (before between : Session) (old here : World) (kept stor
     -- it was stopped at this one
     pub stopped_submitting : (after : Session) (new : World) (was numbers : List ℕ) (fault : StoreFault) → StaysInside before between →
         numbers ≡ was ++ next_numbers kept.table.last place → AllSoFar tells kept store jobs first old here →
-        SubmitsOne tells between after here new store job (Err fault) → SubmitsAll tells before after old new kept jobs was numbers (Err fault)
+        SubmitsOne tells between after here new store job (Err fault)
+        → SubmitsAll tells before after old new kept jobs was numbers (Err fault)
     stopped_submitting after new was numbers fault stays written so_far call = record {
       inside = record {
         stays = record {
@@ -126,15 +130,18 @@ module _ (tells : Bool) (before between : Session) (old here : World) (kept stor
 
 -- What a submission adds.
 
-pub last_more : (store next : Kept) (of : Job) → next.table ≡ after_steps store.table (submission store.table (job_without_script of)) → next.table.last ≡ store.table.last + 1
+pub last_more : (store next : Kept) (of : Job) → next.table ≡ after_steps store.table (submission store.table (job_without_script of))
+    → next.table.last ≡ store.table.last + 1
 last_more store next of is = ap (λ (table : JobTable). table.last) is
 
 pub live_more : (store next : Kept) (of : Job) → next.table ≡ after_steps store.table (submission store.table (job_without_script of)) →
     live_count next.table ≤ live_count store.table + 1
 live_more store next of is =
-    subst (λ (table : JobTable). live_count table ≤ live_count store.table + 1) (sym is) (submissions_add_one_job store.table (job_without_script of))
+    subst (λ (table : JobTable). live_count table ≤ live_count store.table + 1) (sym is)
+    (submissions_add_one_job store.table (job_without_script of))
 
-pub written_more : (last place number stored : ℕ) (was is more : List ℕ) → stored ≡ last + place → is ≡ was ++ next_numbers last place → number ≡ stored + 1 →
+pub written_more : (last place number stored : ℕ) (was is more : List ℕ) → stored ≡ last + place
+    → is ≡ was ++ next_numbers last place → number ≡ stored + 1 →
     more ≡ is ++ number ∷ [] → more ≡ was ++ next_numbers last (place + 1)
 written_more last place number stored was is more at written next pushed =
     pushed ∙ ap (λ (l : List ℕ). l ++ number ∷ []) written ∙ append_assoc was (next_numbers last place) (number ∷ [])

@@ -55,7 +55,8 @@ module _ (minute : ℕ) (table : JobTable) (start : Directory) (shows : EachShow
       shows_the_same (IsEither mark_temp mark_file) both_beside start image is.alone ∙ shows is.alone.from is.alone.was
 
   -- one that has that of the minute shows the table
-  come : (steps : List Step) (image : Files) → IsMarking minute start image → finite.get image mark_file ≡ Some (cron_mark_text minute) → HasCome minute table [] steps image
+  come : (steps : List Step) (image : Files) → IsMarking minute start image → finite.get image mark_file ≡ Some (cron_mark_text minute)
+      → HasCome minute table [] steps image
   come steps image is put = record {
     marked = put;
     shows = record {
@@ -70,16 +71,19 @@ module _ (minute : ℕ) (table : JobTable) (start : Directory) (shows : EachShow
     | inl same ↦ inl (unmarked minute start image is same)
     | inr put ↦ inr (record {
       come = come steps image is put;
-      others = record { from = is.alone.from; was = is.alone.was; others = λ name other. is.alone.others name (λ either. other (inr either)) };
+      others =
+          record { from = is.alone.from; was = is.alone.was; others = λ name other. is.alone.others name (λ either. other (inr either)) };
     })
   ]
 
 -- The mark could not be placed.
-pub mark_failed : (minute : ℕ) (table : JobTable) (jobs : List Job) (old new : World) (fault : StoreFault) → EachShows old.now.directory table →
+pub mark_failed : (minute : ℕ) (table : JobTable) (jobs : List Job) (old new : World) (fault : StoreFault)
+    → EachShows old.now.directory table →
     ChangesFiles (IsMarking minute old.now.directory) old new →
     MarkingLeaves minute table jobs (record { made = []; next = []; later = jobs }) old new (Err fault)
 mark_failed minute table jobs old new fault shows marks = record {
-  files = changes_weaker (IsMarking minute old.now.directory) (IsOnTheMark minute table (submissions table.last jobs) old.now.directory) old new
+  files =
+      changes_weaker (IsMarking minute old.now.directory) (IsOnTheMark minute table (submissions table.last jobs) old.now.directory) old new
       (marking_on minute table old.now.directory shows (submissions table.last jobs)) marks;
   ends = λ image is.
       let at : IsMarking minute old.now.directory image =
@@ -92,23 +96,29 @@ mark_failed minute table jobs old new fault shows marks = record {
 
 -- The mark was placed.
 module _ (minute : ℕ) (table : JobTable) (kept : Kept) (old middle : World) (current : IsCurrent kept old.now.directory table)
-    (marks : ChangesFiles (IsMarking minute old.now.directory) old middle) (mark : IsPlaced mark_temp mark_file (cron_mark_text minute) old.now.directory middle.now.directory) where
+    (marks : ChangesFiles (IsMarking minute old.now.directory) old middle)
+    (mark : IsPlaced mark_temp mark_file (cron_mark_text minute) old.now.directory middle.now.directory) where
   -- what is kept is current still
   pub current_then : IsCurrent kept middle.now.directory table
-  current_then = stays_current (IsEither mark_temp mark_file) both_beside kept table old.now.directory middle.now.directory current (record {
-    images = λ image is. (changes_end (IsMarking minute old.now.directory) old middle marks (not_marked_yet minute old.now.directory) image is).alone;
-    durable = mark.durable;
-    others = mark.others;
-  })
+  current_then =
+      stays_current (IsEither mark_temp mark_file) both_beside kept table old.now.directory middle.now.directory current (record {
+        images = λ image is.
+            (changes_end (IsMarking minute old.now.directory) old middle marks (not_marked_yet minute old.now.directory) image is).alone;
+        durable = mark.durable;
+        others = mark.others;
+      })
 
   -- an image on the way of the submissions has the mark
-  stepping_marked : (steps : List Step) (image : Files) → IsSteppingOn table steps middle.now.directory image → finite.get image mark_file ≡ Some (cron_mark_text minute)
+  stepping_marked : (steps : List Step) (image : Files) → IsSteppingOn table steps middle.now.directory image
+      → finite.get image mark_file ≡ Some (cron_mark_text minute)
   stepping_marked steps image is = is.others.others mark_file file_beside ∙ mark.placed is.others.from is.others.was
 
-  stepping_on : (steps : List Step) (image : Files) → IsSteppingOn table steps middle.now.directory image → HasCronMark minute table steps old.now.directory image
+  stepping_on : (steps : List Step) (image : Files) → IsSteppingOn table steps middle.now.directory image
+      → HasCronMark minute table steps old.now.directory image
   stepping_on steps image is =
       let at : IsMarking minute old.now.directory is.others.from =
-      changes_end (IsMarking minute old.now.directory) old middle marks (not_marked_yet minute old.now.directory) is.others.from is.others.was in
+      changes_end (IsMarking minute old.now.directory) old middle marks (not_marked_yet minute old.now.directory)
+      is.others.from is.others.was in
       record {
         come = record {
           marked = stepping_marked steps image is;
@@ -126,7 +136,8 @@ module _ (minute : ℕ) (table : JobTable) (kept : Kept) (old middle : World) (c
     all = submissions table.last jobs
 
     -- an image of the end
-    at_end : ChangesFiles (IsSteppingOn table all middle.now.directory) middle new → (image : Files) → IsImage new.now.directory image → IsSteppingOn table all middle.now.directory image
+    at_end : ChangesFiles (IsSteppingOn table all middle.now.directory) middle new → (image : Files) → IsImage new.now.directory image
+        → IsSteppingOn table all middle.now.directory image
     at_end files = changes_end (IsSteppingOn table all middle.now.directory) middle new files (λ image is. record {
       prefix = [];
       is_prefix = (all, refl);
@@ -134,7 +145,8 @@ module _ (minute : ℕ) (table : JobTable) (kept : Kept) (old middle : World) (c
       others = left_alone IsSpoolName middle.now.directory image is;
     })
 
-    ends_by : (result : Result (Unit {0}) StoreFault) → IsPartOf jobs part result → SubmissionsLeave table jobs part middle new result → MarkingEnds minute table jobs part old new result
+    ends_by : (result : Result (Unit {0}) StoreFault) → IsPartOf jobs part result → SubmissionsLeave table jobs part middle new result
+        → MarkingEnds minute table jobs part old new result
     ends_by (Ok done) is_part leaves = (
       λ image is. (
         stepping_marked all image (at_end leaves.files image is),
@@ -147,10 +159,12 @@ module _ (minute : ℕ) (table : JobTable) (kept : Kept) (old middle : World) (c
       shows = leaves.ends image is;
     })
 
-    pub submitted_marked : (result : Result (Unit {0}) StoreFault) → IsPartOf jobs part result → SubmissionsLeave table jobs part middle new result →
+    pub submitted_marked : (result : Result (Unit {0}) StoreFault) → IsPartOf jobs part result
+        → SubmissionsLeave table jobs part middle new result →
         MarkingLeaves minute table jobs part old new result
     submitted_marked result is_part leaves = record {
-      files = changes_on (IsMarking minute old.now.directory) (IsSteppingOn table all middle.now.directory) (IsOnTheMark minute table all old.now.directory) old middle new
+      files = changes_on (IsMarking minute old.now.directory) (IsSteppingOn table all middle.now.directory)
+          (IsOnTheMark minute table all old.now.directory) old middle new
           (marking_on minute table old.now.directory current.shows all) (λ image is. inr (stepping_on all image is)) marks leaves.files;
       ends = ends_by result is_part leaves;
     }

@@ -23,7 +23,8 @@ use Rattle.cron_session.proofs.MarkLemmas.{IsMarking, current_then, mark_failed,
 -- a fault that is handed on
 pub marks_at : (tells : Bool) (before after : Session) (old new : World) (kept : Kept) (minute : ℕ) (jobs : List Job) (was is : List ℕ)
     (fault : StoreFault) (result : Result (Unit {0}) StoreFault) → IsErrAnd result (λ other. other ≡ fault) →
-    MarksAndSubmits tells before after old new kept minute jobs was is (Err fault) → MarksAndSubmits tells before after old new kept minute jobs was is result
+    MarksAndSubmits tells before after old new kept minute jobs was is (Err fault)
+    → MarksAndSubmits tells before after old new kept minute jobs was is result
 marks_at tells before after old new kept minute jobs was is fault (Ok done) same marks = absurd same
 marks_at tells before after old new kept minute jobs was is fault (Err other) same marks =
     subst (λ (of : StoreFault). MarksAndSubmits tells before after old new kept minute jobs was is (Err of)) (sym same) marks
@@ -31,7 +32,8 @@ marks_at tells before after old new kept minute jobs was is fault (Err other) sa
 module _ (tells : Bool) (before between : Session) (old middle : World) (kept : Kept) (minute : ℕ) (jobs : List Job) (was : List ℕ)
     (marks : tells ≡ true → ChangesFiles (IsMarking minute old.now.directory) old middle) where
   -- the mark could not be placed
-  not_marked : (fault : StoreFault) → CallsInside {T = Unit {0}} FileFault before between (Err fault) → IfErr {T = Unit {0}} (Err fault) IsOfStep →
+  not_marked : (fault : StoreFault) → CallsInside {T = Unit {0}} FileFault before between (Err fault)
+      → IfErr {T = Unit {0}} (Err fault) IsOfStep →
       MarksAndSubmits tells before between old middle kept minute jobs was was (Err fault)
   not_marked fault inside faults = record {
     inside = inside;
@@ -45,13 +47,17 @@ module _ (tells : Bool) (before between : Session) (old middle : World) (kept : 
   pub marks_failed : (fault : HostFault) → CallsInside {T = Unit {0}} host.Failed before between (Err fault) →
       MarksAndSubmits tells before between old middle kept minute jobs was was (Err (store_fault_of fault))
   marks_failed host.Failed inside =
-      not_marked FileFault (record { stays = inside.stays; cause = record { later = inside.cause.later; rose = λ bad. inside.cause.rose refl } }) tt
+      not_marked FileFault
+      (record { stays = inside.stays; cause = record { later = inside.cause.later; rose = λ bad. inside.cause.rose refl } }) tt
   marks_failed host.Memory inside =
-      not_marked Memory (record { stays = inside.stays; cause = record { later = inside.cause.later; rose = λ bad. absurd (memory_is_none bad) } }) tt
+      not_marked Memory
+      (record { stays = inside.stays; cause = record { later = inside.cause.later; rose = λ bad. absurd (memory_is_none bad) } }) tt
 
   -- it was placed
-  pub marks_submitted : (after : Session) (new : World) (is : List ℕ) (result : Result (Unit {0}) StoreFault) → CallsInside {T = Unit {0}} host.Failed before between (Ok tt) →
-      (tells ≡ true → IsPlaced mark_temp mark_file (cron_mark_text minute) old.now.directory middle.now.directory) → SubmitsAll tells between after middle new kept jobs was is result →
+  pub marks_submitted : (after : Session) (new : World) (is : List ℕ) (result : Result (Unit {0}) StoreFault)
+      → CallsInside {T = Unit {0}} host.Failed before between (Ok tt) →
+      (tells ≡ true → IsPlaced mark_temp mark_file (cron_mark_text minute) old.now.directory middle.now.directory)
+      → SubmitsAll tells between after middle new kept jobs was is result →
       MarksAndSubmits tells before after old new kept minute jobs was is result
   marks_submitted after new is result inside mark submits = record {
     inside = record {

@@ -29,7 +29,8 @@ use Rattle.cron_session.specs.Steps.{AreToSubmit, Cron, IsMarkedBefore, minute_o
 
 -- each image of the directory has the mark of this minute or of a later one
 record HasMarkFrom (minute : ℕ) (directory : Directory) : Type 0 where
-  marked_in : (image : Files) → IsImage directory image → (marked : ℕ) × (minute ≤ marked) × IsMark (finite.get image mark_file) (Some marked)
+  marked_in : (image : Files) → IsImage directory image
+      → (marked : ℕ) × (minute ≤ marked) × IsMark (finite.get image mark_file) (Some marked)
 
 -- A mark is of one minute.
 
@@ -51,7 +52,8 @@ one_mark None minute marked is other = absurd (let none : Some minute ≡ None =
 one_mark (Some text) minute None is other = absurd other
 one_mark (Some text) minute (Some another) is other = ap Some (one_minute text another minute other is)
 
-mark_of : (content : Option (List ℕ)) (minute : ℕ) → IsClockMinute minute → content ≡ Some (cron_mark_text minute) → IsMark content (Some minute)
+mark_of : (content : Option (List ℕ)) (minute : ℕ) → IsClockMinute minute → content ≡ Some (cron_mark_text minute)
+    → IsMark content (Some minute)
 mark_of content minute clock is = subst (λ at. IsMark at (Some minute)) (sym is) (record { minute_is = clock; text_is = refl })
 
 -- the minute of a second of the clock is one of its minutes
@@ -80,7 +82,8 @@ pub unmarked_has_nothing_new : (old : World) (image : Files) → IsUnmarked old.
 unmarked_has_nothing_new old image is =
     record { from = is.alone.from; was = is.alone.was; mark = is.alone.others mark_file mark_is_beside; shows = is.same }
 
-idle_submits_nothing : (numbers : List ℕ) (old new : World) → IsCronIdle numbers old new → SubmitsNothing old.now.directory new.now.directory
+idle_submits_nothing : (numbers : List ℕ) (old new : World) → IsCronIdle numbers old new
+    → SubmitsNothing old.now.directory new.now.directory
 idle_submits_nothing numbers old new idle image is =
     unmarked_has_nothing_new old image (changes_end (IsUnmarked old.now.directory) old new idle.unmarked
     (λ files was. record { alone = left_alone IsSpoolOrTemp old.now.directory files was; same = refl }) image is)
@@ -239,7 +242,8 @@ nothing_keeps old new nothing image is =
     (before.from, before.was, before.mark)
 
 -- where it was set, each image has the mark of its minute
-sets_from : (cron : Cron) (old new : World) → IsClockSecond cron.now → SetsMark cron old new → HasMarkFrom (minute_of cron) new.now.directory
+sets_from : (cron : Cron) (old new : World) → IsClockSecond cron.now → SetsMark cron old new
+    → HasMarkFrom (minute_of cron) new.now.directory
 sets_from cron old new second sets = record {
   marked_in = λ image is. (
     minute_of cron,

@@ -8,7 +8,8 @@ use Rattle.whole_file.specs.Placement.{IsPlaced, IsPlacing}
 use Rattle.cron_session.specs.Mark.{cron_mark_text}
 use Rattle.cron_session.specs.MarkNames.{mark_file, mark_temp}
 
-module _ (temp target bytes : List ℕ) (minute : ℕ) (temp_is : temp ≡ mark_temp) (target_is : target ≡ mark_file) (bytes_are : bytes ≡ cron_mark_text minute) where
+module _ (temp target bytes : List ℕ) (minute : ℕ) (temp_is : temp ≡ mark_temp) (target_is : target ≡ mark_file)
+    (bytes_are : bytes ≡ cron_mark_text minute) where
   pub placing_named : (old new : World) → ChangesFiles (IsPlacing temp target bytes old.now.directory) old new
       → ChangesFiles (IsPlacing mark_temp mark_file (cron_mark_text minute) old.now.directory) old new
   placing_named old new places =

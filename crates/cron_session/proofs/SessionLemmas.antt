@@ -25,7 +25,8 @@ stand session world = record { session = session; world = world }
 
 -- where nothing changed, nothing was submitted
 idle_same : (old new : World) → new ≡ old → IsCronIdle [] old new
-idle_same old new same = subst (IsCronIdle [] old) (sym same) (record { none = refl; unmarked = changes_none (IsUnmarked old.now.directory) old })
+idle_same old new same =
+    subst (IsCronIdle [] old) (sym same) (record { none = refl; unmarked = changes_none (IsUnmarked old.now.directory) old })
 
 not_busy : (result : Result (Unit {0}) StoreFault) → cron_end_after result ≡ Busy → ⊥
 not_busy (Ok done) is = cc
@@ -44,7 +45,8 @@ is_fault (Err fault.QueueFull) is = cc
 is_fault (Err fault.NumbersUsedUp) is = cc
 
 -- What came of the session: it could not begin, or the work was done in it.
-module _ {H F : Type 0} (g : Ghosts H) (calls : Calls H F (Result (Unit {0}) StoreFault)) (work left : F) (old new : H) (cron : Cron) (numbers : List ℕ)
+module _ {H F : Type 0} (g : Ghosts H) (calls : Calls H F (Result (Unit {0}) StoreFault)) (work left : F) (old new : H)
+    (cron : Cron) (numbers : List ℕ)
     (still : left ≡ work → numbers ≡ [])
     (within : (first last : H) (done : Result (Unit {0}) StoreFault) → CalledAtMut calls work first done left last →
     CronWorks g.tells cron (stand (g.session first) (g.world first)) (stand (g.session last) (g.world last)) numbers done) where
@@ -62,9 +64,11 @@ module _ {H F : Type 0} (g : Ghosts H) (calls : Calls H F (Result (Unit {0}) Sto
     same : g.tells ≡ true → g.alone ≡ true → g.world new ≡ g.world old
     same = undone.refused.quiet.alone
 
-  pub cron_of_session : (result : Result (Result (Unit {0}) StoreFault) EnterFault) → EndsSession g calls work left old new result → Ended numbers (end_of_cron_session result)
+  pub cron_of_session : (result : Result (Result (Unit {0}) StoreFault) EnterFault) → EndsSession g calls work left old new result
+      → Ended numbers (end_of_cron_session result)
   cron_of_session (Ok done) ends =
-      let works : CronWorks g.tells cron (stand (g.session ends.first) (g.world ends.first)) (stand (g.session ends.last) (g.world ends.last)) numbers done =
+      let works : CronWorks g.tells cron (stand (g.session ends.first) (g.world ends.first))
+      (stand (g.session ends.last) (g.world ends.last)) numbers done =
       within ends.first ends.last done ends.did in
       record {
         left = record {
@@ -75,12 +79,15 @@ module _ {H F : Type 0} (g : Ghosts H) (calls : Calls H F (Result (Unit {0}) Sto
         };
         busy = λ bad. absurd (not_busy done bad);
         fault = λ bad.
-            let rose : Rose (g.session ends.first).file_faults (g.session ends.last).file_faults = works.inside.cause.rose (is_fault done bad) in
+            let rose : Rose (g.session ends.first).file_faults (g.session ends.last).file_faults =
+            works.inside.cause.rose (is_fault done bad) in
             omega (arith, ends.begun.counts.file_faults, rose, ends.over.counts.file_faults);
         unread = works.unread;
         leaves = λ known is_alone.
-            subst (λ (world : World). CronLeaves cron numbers world (g.world new) (cron_end_after done)) (ends.begun.quiet.alone known is_alone)
-            (subst (λ (world : World). CronLeaves cron numbers (g.world ends.first) world (cron_end_after done)) (sym (ends.quiet.alone known is_alone)) (works.leaves known));
+            subst (λ (world : World). CronLeaves cron numbers world (g.world new) (cron_end_after done))
+            (ends.begun.quiet.alone known is_alone)
+            (subst (λ (world : World). CronLeaves cron numbers (g.world ends.first) world (cron_end_after done))
+            (sym (ends.quiet.alone known is_alone)) (works.leaves known));
       }
   cron_of_session (Err entry.Taken) undone = at_none entry.Taken undone Busy (record {
     left = undone.refused.left;
@@ -105,6 +112,7 @@ module _ {H F : Type 0} (g : Ghosts H) (calls : Calls H F (Result (Unit {0}) Sto
   })
 
   -- the numbers are distinct
-  pub distinct_of_session : (result : Result (Result (Unit {0}) StoreFault) EnterFault) → EndsSession g calls work left old new result → IsTrue (are_distinct numbers)
+  pub distinct_of_session : (result : Result (Result (Unit {0}) StoreFault) EnterFault) → EndsSession g calls work left old new result
+      → IsTrue (are_distinct numbers)
   distinct_of_session (Ok done) ends = (within ends.first ends.last done ends.did).distinct
   distinct_of_session (Err of) undone = subst (λ (l : List ℕ). are_distinct l ≡ true) (sym (still undone.same)) refl

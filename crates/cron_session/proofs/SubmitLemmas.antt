@@ -33,7 +33,8 @@ last_after table (job ∷ later) =
     let same : (table.last + 1) + length later ≡ table.last + suc (length later) = omega arith in
     after ∙ same
 
-pub submissions-append : (last : ℕ) (first later : List Job) → submissions last (first ++ later) ≡ submissions last first ++ submissions (last + length first) later
+pub submissions-append : (last : ℕ) (first later : List Job)
+    → submissions last (first ++ later) ≡ submissions last first ++ submissions (last + length first) later
 submissions-append last [] later = let none : last ≡ last + 0 = omega arith in ap (λ (number : ℕ). submissions number later) none
 submissions-append last (job ∷ first) later =
     let same : (last + 1) + length first ≡ last + suc (length first) = omega arith in
@@ -50,7 +51,8 @@ numbers_after-push last (suc count) =
     ∙ ap (λ (number : ℕ). next_numbers (last + 1) count ++ number ∷ []) same)
 
 -- the steps are legal where there is a number for each job
-pub submissions_legal : (table : JobTable) (jobs : List Job) → IsSound table → table.last + length jobs ≤ LAST_NUMBER → AreLegal table (submissions table.last jobs)
+pub submissions_legal : (table : JobTable) (jobs : List Job) → IsSound table → table.last + length jobs ≤ LAST_NUMBER
+    → AreLegal table (submissions table.last jobs)
 submissions_legal table [] sound few = tt
 submissions_legal table (job ∷ later) sound few =
     let many : table.last + suc (length later) ≤ LAST_NUMBER = few in
@@ -68,7 +70,8 @@ pub record SoFar (table : JobTable) (jobs first : List Job) (store : Kept) (old 
   pub others : KeepsOthers old.now.directory here.now.directory
 
 -- an image of the start is on the way of any steps
-holds : (table : JobTable) (steps : List Step) (start : Directory) → EachShows start table → (image : Files) → IsImage start image → IsSteppingOn table steps start image
+holds : (table : JobTable) (steps : List Step) (start : Directory) → EachShows start table → (image : Files) → IsImage start image
+    → IsSteppingOn table steps start image
 holds table steps start shows image is = record {
   prefix = [];
   is_prefix = (steps, refl);
@@ -77,14 +80,16 @@ holds table steps start shows image is = record {
 }
 
 -- no job was submitted yet
-pub none_so_far : (table : JobTable) (jobs : List Job) (kept : Kept) (old : World) → IsCurrent kept old.now.directory table → SoFar table jobs [] kept old old
+pub none_so_far : (table : JobTable) (jobs : List Job) (kept : Kept) (old : World) → IsCurrent kept old.now.directory table
+    → SoFar table jobs [] kept old old
 none_so_far table jobs kept old current = record {
   files = changes_none (IsSteppingOn table (submissions table.last jobs) old.now.directory) old;
   current = current;
   others = λ name other. refl;
 }
 
-module _ (table : JobTable) (jobs first : List Job) (job : Job) (later : List Job) (are : jobs ≡ first ++ job ∷ later) (kept store : Kept) (old here : World)
+module _ (table : JobTable) (jobs first : List Job) (job : Job) (later : List Job) (are : jobs ≡ first ++ job ∷ later)
+    (kept store : Kept) (old here : World)
     (was : IsCurrent kept old.now.directory table) (so_far : SoFar table jobs first store old here) where
   abbrev all : List Step
   all = submissions table.last jobs
@@ -117,20 +122,24 @@ module _ (table : JobTable) (jobs first : List Job) (job : Job) (later : List Jo
         (prefix_after before is.prefix (one ++ rest) (prefix_longer is.prefix one rest is.is_prefix));
     shows = subst (Shows image) (sym (steps_then table before is.prefix)) is.shows;
     others = others_then old.now.directory here.now.directory image (λ from at.
-        (changes_end (IsSteppingOn table all old.now.directory) old here so_far.files (holds table all old.now.directory was.shows) from at).others) is.others;
+        (changes_end (IsSteppingOn table all old.now.directory) old here so_far.files (holds table all old.now.directory was.shows)
+        from at).others) is.others;
   }
 
   module _ (new : World) (call : ChangesFiles (IsSteppingOn middle one here.now.directory) here new) where
     -- whatever came of the next job
     pub files_then : ChangesFiles (IsSteppingOn table all old.now.directory) old new
     files_then =
-        changes_on (IsSteppingOn table all old.now.directory) (IsSteppingOn middle one here.now.directory) (IsSteppingOn table all old.now.directory)
+        changes_on (IsSteppingOn table all old.now.directory) (IsSteppingOn middle one here.now.directory)
+        (IsSteppingOn table all old.now.directory)
         old here new (λ image is. is) along so_far.files call
 
     -- it was stopped there
-    pub stopped_there : (image : Files) → IsImage new.now.directory image → ShowsAfterPrefix table before (submissions (table.last + length first) (job ∷ [])) image
+    pub stopped_there : (image : Files) → IsImage new.now.directory image
+        → ShowsAfterPrefix table before (submissions (table.last + length first) (job ∷ [])) image
     stopped_there image is =
-        let at = changes_end (IsSteppingOn middle one here.now.directory) here new call (holds middle one here.now.directory so_far.current.shows) image is in
+        let at = changes_end (IsSteppingOn middle one here.now.directory) here new call
+        (holds middle one here.now.directory so_far.current.shows) image is in
         record {
           prefix = at.prefix;
           is_prefix = subst (IsPrefix at.prefix) one_is at.is_prefix;
@@ -138,7 +147,8 @@ module _ (table : JobTable) (jobs first : List Job) (job : Job) (later : List Jo
         }
 
     -- it was submitted
-    pub one_more : (next : Kept) → IsCurrent next new.now.directory (after_steps middle one) → KeepsOthers here.now.directory new.now.directory → SoFar table jobs (first ++ job ∷ []) next old new
+    pub one_more : (next : Kept) → IsCurrent next new.now.directory (after_steps middle one)
+        → KeepsOthers here.now.directory new.now.directory → SoFar table jobs (first ++ job ∷ []) next old new
     one_more next current others = record {
       files = files_then;
       current = subst (IsCurrent next new.now.directory)

@@ -56,7 +56,8 @@ same_last kept table is = ap (λ (of : JobTable). of.last) is ∙ last_without_s
 pub same_live : (kept : Kept) (table : JobTable) → kept.table ≡ without_scripts table → live_count kept.table ≡ live_count table
 same_live kept table is = ap live_count is ∙ (lists_as_on_the_table table).live_counted
 
-room_on : (kept : Kept) (table : JobTable) (count : ℕ) (of : StoreFault) → kept.table ≡ without_scripts table → IsRoomFault kept.table count of → IsRoomFault table count of
+room_on : (kept : Kept) (table : JobTable) (count : ℕ) (of : StoreFault) → kept.table ≡ without_scripts table
+    → IsRoomFault kept.table count of → IsRoomFault table count of
 room_on kept table count fault.QueueFull is many =
     subst (λ (live : ℕ). MAX_LIVE < live + count) (same_live kept table is) many
 room_on kept table count fault.NumbersUsedUp is used = record {
@@ -73,20 +74,27 @@ module _ (cron : Cron) (due : List (List ℕ)) (are : AreDueAt cron.entries (min
   jobs_due = cron_jobs cron.context (minute_of cron) due
 
   pub due_jobs : AreDueJobs cron jobs_due
-  due_jobs = record { civil = are.civil; shown = are.shown; are = ap (cron_jobs cron.context (minute_of cron)) are.are ∙ jobs_are_due cron are.civil }
+  due_jobs = record {
+    civil = are.civil;
+    shown = are.shown;
+    are = ap (cron_jobs cron.context (minute_of cron)) are.are ∙ jobs_are_due cron are.civil;
+  }
 
   pub as_many : length jobs_due ≡ length due
   as_many = length-map due _
 
 -- at the minute of the session
-pub due_at_now : (entries : List CronEntry) (minute : ℕ) (now : ℤ) (zone : Zone) (found due : List (List ℕ)) → minute ≡ minute_at now → due ≡ found →
+pub due_at_now : (entries : List CronEntry) (minute : ℕ) (now : ℤ) (zone : Zone) (found due : List (List ℕ))
+    → minute ≡ minute_at now → due ≡ found →
     AreDueAt entries minute zone found → AreDueAt entries (minute_at now) zone due
 due_at_now entries minute now zone found due same is are =
     subst (λ (at : ℕ). AreDueAt entries at zone due) same (subst (AreDueAt entries minute zone) (sym is) are)
 
 -- a fault that is handed on
-pub submits_due_at : (tells : Bool) (before after : Session) (old new : World) (kept : Kept) (cron : Cron) (numbers : List ℕ) (of : StoreFault) (result : Result (Unit {0}) StoreFault) →
-    IsErrAnd result (λ other. other ≡ of) → SubmitsDue tells before after old new kept cron numbers (Err of) → SubmitsDue tells before after old new kept cron numbers result
+pub submits_due_at : (tells : Bool) (before after : Session) (old new : World) (kept : Kept) (cron : Cron) (numbers : List ℕ)
+    (of : StoreFault) (result : Result (Unit {0}) StoreFault) →
+    IsErrAnd result (λ other. other ≡ of) → SubmitsDue tells before after old new kept cron numbers (Err of)
+    → SubmitsDue tells before after old new kept cron numbers result
 submits_due_at tells before after old new kept cron numbers of (Ok done) same submits = absurd same
 submits_due_at tells before after old new kept cron numbers of (Err other) same submits =
     subst (λ (one : StoreFault). SubmitsDue tells before after old new kept cron numbers (Err one)) (sym same) submits
@@ -108,7 +116,8 @@ pub distinct_at : (last count : ℕ) (numbers : List ℕ) → numbers ≡ next_n
 distinct_at last count numbers is = subst (λ (l : List ℕ). are_distinct l ≡ true) (sym is) (numbers_are_distinct last count)
 
 -- Nothing was begun.
-module _ (tells : Bool) (session : Session) (old : World) (kept : Kept) (cron : Cron) (inside : IsInside session) (numbers : List ℕ) (none : numbers ≡ []) where
+module _ (tells : Bool) (session : Session) (old : World) (kept : Kept) (cron : Cron) (inside : IsInside session) (numbers : List ℕ)
+    (none : numbers ≡ []) where
   untouched : IsCronUntouched numbers old old
   untouched = record { none = none; same = refl }
 
@@ -117,30 +126,38 @@ module _ (tells : Bool) (session : Session) (old : World) (kept : Kept) (cron : 
 
   pub due_wants : SubmitsDue tells session session old old kept cron numbers (Err fault.Memory)
   due_wants = record {
-    inside = record { stays = stays_inside session inside; cause = record { later = omega arith; rose = λ bad. absurd (memory_is_none bad) } };
+    inside =
+        record { stays = stays_inside session inside; cause = record { later = omega arith; rose = λ bad. absurd (memory_is_none bad) } };
     unread = tt;
     distinct = distinct;
     leaves = λ known table current durable. inl untouched;
   }
 
   module _ (due : List (List ℕ)) (are : AreDueAt cron.entries (minute_of cron) cron.zone due) where
-    refused_on : (of : StoreFault) → IsRoomFault kept.table (length due) of → (table : JobTable) → kept.table ≡ without_scripts table → AreJobsRefused cron table numbers old old of
+    refused_on : (of : StoreFault) → IsRoomFault kept.table (length due) of → (table : JobTable) → kept.table ≡ without_scripts table
+        → AreJobsRefused cron table numbers old old of
     refused_on of because table is = record {
       jobs = jobs_due cron due are;
       are = due_jobs cron due are;
-      because = subst (λ (count : ℕ). IsRoomFault table count of) (sym (as_many cron due are)) (room_on kept table (length due) of is because);
+      because =
+          subst (λ (count : ℕ). IsRoomFault table count of) (sym (as_many cron due are)) (room_on kept table (length due) of is because);
       untouched = untouched;
     }
 
-    pub room_refused : (of : StoreFault) → IsRoomFault kept.table (length due) of → SubmitsDue tells session session old old kept cron numbers (Err of)
+    pub room_refused : (of : StoreFault) → IsRoomFault kept.table (length due) of
+        → SubmitsDue tells session session old old kept cron numbers (Err of)
     room_refused fault.QueueFull because = record {
-      inside = record { stays = stays_inside session inside; cause = record { later = omega arith; rose = λ bad. absurd (full_is_none bad) } };
+      inside =
+          record { stays = stays_inside session inside; cause = record { later = omega arith; rose = λ bad. absurd (full_is_none bad) } };
       unread = none;
       distinct = distinct;
       leaves = λ known table current durable. refused_on fault.QueueFull because table current.without_scripts_is;
     }
     room_refused fault.NumbersUsedUp because = record {
-      inside = record { stays = stays_inside session inside; cause = record { later = omega arith; rose = λ bad. absurd (used_up_is_none bad) } };
+      inside = record {
+        stays = stays_inside session inside;
+        cause = record { later = omega arith; rose = λ bad. absurd (used_up_is_none bad) };
+      };
       unread = none;
       distinct = distinct;
       leaves = λ known table current durable. refused_on fault.NumbersUsedUp because table current.without_scripts_is;
@@ -149,10 +166,13 @@ module _ (tells : Bool) (session : Session) (old : World) (kept : Kept) (cron : 
     room_refused _ because = absurd because
 
 -- The minute was marked, or that was tried.
-module _ (tells : Bool) (before after : Session) (old new : World) (kept : Kept) (cron : Cron) (due : List (List ℕ)) (are : AreDueAt cron.entries (minute_of cron) cron.zone due)
+module _ (tells : Bool) (before after : Session) (old new : World) (kept : Kept) (cron : Cron) (due : List (List ℕ))
+    (are : AreDueAt cron.entries (minute_of cron) cron.zone due)
     (room : HasRoomFor kept.table (length due)) (was numbers : List ℕ) (none : was ≡ []) where
-  begun : (result : Result (Unit {0}) StoreFault) → MarksAndSubmits tells before after old new kept (minute_of cron) (jobs_due cron due are) was numbers result →
-      tells ≡ true → (table : JobTable) → IsCurrent kept old.now.directory table → IsDurableAt mark_temp old.now.directory → AreSubmissionsBegun cron table numbers old new result
+  begun : (result : Result (Unit {0}) StoreFault)
+      → MarksAndSubmits tells before after old new kept (minute_of cron) (jobs_due cron due are) was numbers result →
+      tells ≡ true → (table : JobTable) → IsCurrent kept old.now.directory table → IsDurableAt mark_temp old.now.directory
+      → AreSubmissionsBegun cron table numbers old new result
   begun result marks known table current durable = record {
     jobs = jobs_due cron due are;
     are = due_jobs cron due are;
@@ -169,19 +189,31 @@ module _ (tells : Bool) (before after : Session) (old new : World) (kept : Kept)
     leaves = marks.leaves known table current durable;
   }
 
-  numbers_distinct : (result : Result (Unit {0}) StoreFault) → MarksAndSubmits tells before after old new kept (minute_of cron) (jobs_due cron due are) was numbers result → are_distinct numbers ≡ true
+  numbers_distinct : (result : Result (Unit {0}) StoreFault) → MarksAndSubmits tells before after old new kept (minute_of cron)
+      (jobs_due cron due are) was numbers result → are_distinct numbers ≡ true
   numbers_distinct result marks =
       distinct_at kept.table.last (length marks.part.made) numbers
       (marks.written ∙ ap (λ (l : List ℕ). l ++ next_numbers kept.table.last (length marks.part.made)) none)
 
-  pub due_submitted : (result : Result (Unit {0}) StoreFault) → MarksAndSubmits tells before after old new kept (minute_of cron) (jobs_due cron due are) was numbers result →
+  pub due_submitted : (result : Result (Unit {0}) StoreFault)
+      → MarksAndSubmits tells before after old new kept (minute_of cron) (jobs_due cron due are) was numbers result →
       SubmitsDue tells before after old new kept cron numbers result
   due_submitted (Ok done) marks =
       record { inside = marks.inside; unread = tt; distinct = numbers_distinct (Ok done) marks; leaves = begun (Ok done) marks }
   due_submitted (Err fault.FileFault) marks =
-      record { inside = marks.inside; unread = tt; distinct = numbers_distinct (Err fault.FileFault) marks; leaves = begun (Err fault.FileFault) marks }
+      record {
+        inside = marks.inside;
+        unread = tt;
+        distinct = numbers_distinct (Err fault.FileFault) marks;
+        leaves = begun (Err fault.FileFault) marks;
+      }
   due_submitted (Err fault.Memory) marks =
-      record { inside = marks.inside; unread = tt; distinct = numbers_distinct (Err fault.Memory) marks; leaves = λ known table current durable. inr (begun (Err fault.Memory) marks known table current durable) }
+      record {
+        inside = marks.inside;
+        unread = tt;
+        distinct = numbers_distinct (Err fault.Memory) marks;
+        leaves = λ known table current durable. inr (begun (Err fault.Memory) marks known table current durable);
+      }
   due_submitted _ marks = absurd marks.faults
 
 -- Since the start.
@@ -196,14 +228,17 @@ recovery_is_unmarked start image is = record {
   same = is.same;
 }
 
-pub idle_after : (old middle : World) (numbers : List ℕ) → numbers ≡ [] → ChangesFiles (ShowsAsBefore old.now.directory) old middle → IsCronIdle numbers old middle
+pub idle_after : (old middle : World) (numbers : List ℕ) → numbers ≡ [] → ChangesFiles (ShowsAsBefore old.now.directory) old middle
+    → IsCronIdle numbers old middle
 idle_after old middle numbers none recovery = record {
   none = none;
-  unmarked = changes_weaker (ShowsAsBefore old.now.directory) (IsUnmarked old.now.directory) old middle (recovery_is_unmarked old.now.directory) recovery;
+  unmarked = changes_weaker (ShowsAsBefore old.now.directory) (IsUnmarked old.now.directory) old middle
+      (recovery_is_unmarked old.now.directory) recovery;
 }
 
 -- the file that is being made is durable after a recovery
-pub temp_durable : (old middle : World) (kept : Kept) → IsRecovered old.now.directory middle.now.directory kept → IsDurableAt mark_temp middle.now.directory
+pub temp_durable : (old middle : World) (kept : Kept) → IsRecovered old.now.directory middle.now.directory kept
+    → IsDurableAt mark_temp middle.now.directory
 temp_durable old middle kept recovered image is = recovered.durable_others image is mark_temp temp_beside
 
 module _ (cron : Cron) (old middle : World) (kept : Kept) (recovery : ChangesFiles (ShowsAsBefore old.now.directory) old middle)
@@ -227,7 +262,8 @@ module _ (cron : Cron) (old middle : World) (kept : Kept) (recovery : ChangesFil
         same = is.same ∙ from.same;
       }
 
-  on_mark_since : (minute : ℕ) (table : JobTable) (jobs : List Job) (image : Files) → IsOnTheMark minute table (submissions table.last jobs) middle.now.directory image →
+  on_mark_since : (minute : ℕ) (table : JobTable) (jobs : List Job) (image : Files)
+      → IsOnTheMark minute table (submissions table.last jobs) middle.now.directory image →
       IsOnTheMark minute table (submissions table.last jobs) old.now.directory image
   on_mark_since minute table jobs image (inl is) = inl (unmarked_since image is)
   on_mark_since minute table jobs image (inr is) =
@@ -242,7 +278,8 @@ module _ (cron : Cron) (old middle : World) (kept : Kept) (recovery : ChangesFil
       })
 
   -- The mark was of the minute already, or of a later one.
-  pub quiet_after : (numbers : List ℕ) → numbers ≡ [] → (marked : ℕ) → IsMark (finite.get (reading middle) mark_file) (Some marked) → minute_of cron ≤ marked →
+  pub quiet_after : (numbers : List ℕ) → numbers ≡ [] → (marked : ℕ) → IsMark (finite.get (reading middle) mark_file) (Some marked)
+      → minute_of cron ≤ marked →
       HasNothingToDo cron numbers old middle
   quiet_after numbers none marked mark late = record {
     already = record {
@@ -265,7 +302,8 @@ module _ (cron : Cron) (old middle : World) (kept : Kept) (recovery : ChangesFil
   )
 
   -- The mark is of an earlier minute.
-  module _ (marked : Option ℕ) (mark : IsMark (finite.get (reading middle) mark_file) marked) (before : IsMarkedBefore (minute_of cron) marked) where
+  module _ (marked : Option ℕ) (mark : IsMark (finite.get (reading middle) mark_file) marked)
+      (before : IsMarkedBefore (minute_of cron) marked) where
     to_submit : (jobs : List Job) → AreDueJobs cron jobs → AreToSubmit cron (reading old) recovered.table jobs
     to_submit jobs are = record {
       shown = recovered.shown;
@@ -276,14 +314,18 @@ module _ (cron : Cron) (old middle : World) (kept : Kept) (recovery : ChangesFil
     }
 
     module _ (numbers : List ℕ) (new : World) where
-      submits_all : (result : Result (Unit {0}) StoreFault) (is : AreSubmissionsBegun cron recovered.table numbers middle new result) → Submits cron recovered.table is.jobs old new
+      submits_all : (result : Result (Unit {0}) StoreFault) (is : AreSubmissionsBegun cron recovered.table numbers middle new result)
+          → Submits cron recovered.table is.jobs old new
       submits_all result is = record {
         are = to_submit is.jobs is.are;
         room = is.room;
-        legal = submissions_legal recovered.table is.jobs (shown_tables_are_sound (reading old) recovered.table recovered.shown) is.room.numbers;
-        files = changes_on (ShowsAsBefore old.now.directory) (IsOnTheMark (minute_of cron) recovered.table (submissions recovered.table.last is.jobs) middle.now.directory)
+        legal = submissions_legal recovered.table is.jobs
+            (shown_tables_are_sound (reading old) recovered.table recovered.shown) is.room.numbers;
+        files = changes_on (ShowsAsBefore old.now.directory)
+            (IsOnTheMark (minute_of cron) recovered.table (submissions recovered.table.last is.jobs) middle.now.directory)
             (IsOnTheMark (minute_of cron) recovered.table (submissions recovered.table.last is.jobs) old.now.directory) old middle new
-            (λ image at. inl (recovery_is_unmarked old.now.directory image at)) (on_mark_since (minute_of cron) recovered.table is.jobs) recovery is.leaves.files;
+            (λ image at. inl (recovery_is_unmarked old.now.directory image at)) (on_mark_since (minute_of cron) recovered.table is.jobs)
+            recovery is.leaves.files;
       }
 
       whole_after : AreSubmissionsBegun cron recovered.table numbers middle new (Ok tt) → IsCronDone cron numbers old new
@@ -296,7 +338,8 @@ module _ (cron : Cron) (old middle : World) (kept : Kept) (recovery : ChangesFil
         numbers_are = is.written ∙ ap (λ (made : List Job). next_numbers recovered.table.last (length made)) is.is_part.all;
       }
 
-      stopped_after : (of : StoreFault) → AreSubmissionsBegun cron recovered.table numbers middle new (Err of) → IsCronStopped cron numbers old new
+      stopped_after : (of : StoreFault) → AreSubmissionsBegun cron recovered.table numbers middle new (Err of)
+          → IsCronStopped cron numbers old new
       stopped_after of is = record {
         table = recovered.table;
         made = is.part.made;
@@ -314,7 +357,8 @@ module _ (cron : Cron) (old middle : World) (kept : Kept) (recovery : ChangesFil
       idle_same : IsCronUntouched numbers middle new → IsCronIdle numbers old new
       idle_same is = subst (IsCronIdle numbers old) (sym is.same) (idle_after old middle numbers is.none recovery)
 
-      pub due_leaves : (result : Result (Unit {0}) StoreFault) → DueLeaves cron recovered.table numbers middle new result → CronLeaves cron numbers old new (cron_end_after result)
+      pub due_leaves : (result : Result (Unit {0}) StoreFault) → DueLeaves cron recovered.table numbers middle new result
+          → CronLeaves cron numbers old new (cron_end_after result)
       due_leaves (Ok done) leaves = inr (whole_after leaves)
       due_leaves (Err fault.FileFault) leaves = inr (stopped_after fault.FileFault leaves)
       due_leaves (Err fault.Memory) (inl nothing) = inl (idle_same nothing)
@@ -324,7 +368,13 @@ module _ (cron : Cron) (old middle : World) (kept : Kept) (recovery : ChangesFil
         idle_same leaves.untouched,
       )
       due_leaves (Err fault.NumbersUsedUp) leaves = (
-        record { table = recovered.table; jobs = leaves.jobs; are = to_submit leaves.jobs leaves.are; room = leaves.because.room; few = leaves.because.few },
+        record {
+          table = recovered.table;
+          jobs = leaves.jobs;
+          are = to_submit leaves.jobs leaves.are;
+          room = leaves.because.room;
+          few = leaves.because.few;
+        },
         idle_same leaves.untouched,
       )
       due_leaves (Err (fault.Damaged damage)) leaves = absurd leaves

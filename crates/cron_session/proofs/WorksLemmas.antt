@@ -33,7 +33,8 @@ pub marked_since : (minute : ℕ) (marked : Option ℕ) → is_since minute mark
 marked_since minute None is = let impossible : false ≡ true = is in cc
 marked_since minute (Some of) is = (of, refl, grind (arith, nat_tests))
 
-pub late_enough : (minute : ℕ) (now : ℤ) (marked : Option ℕ) → minute ≡ minute_at now → is_since minute marked ≡ true → (of : ℕ) × (marked ≡ Some of) × (minute_at now ≤ of)
+pub late_enough : (minute : ℕ) (now : ℤ) (marked : Option ℕ) → minute ≡ minute_at now → is_since minute marked ≡ true
+    → (of : ℕ) × (marked ≡ Some of) × (minute_at now ≤ of)
 late_enough minute now marked same is =
     let late : (of : ℕ) × (marked ≡ Some of) × (minute ≤ of) = marked_since minute marked is in
     (late.0, late.1, subst (λ (at : ℕ). at ≤ late.0) same late.2)
@@ -58,10 +59,12 @@ calls_then of other before between after first second one two = record {
 }
 
 -- a fault that is handed on
-pub works_at : (tells : Bool) (cron : Cron) (old new : CronAt) (numbers : List ℕ) (of : StoreFault) (result : Result (Unit {0}) StoreFault) →
+pub works_at : (tells : Bool) (cron : Cron) (old new : CronAt) (numbers : List ℕ) (of : StoreFault) (result : Result (Unit {0}) StoreFault)
+    →
     IsErrAnd result (λ other. other ≡ of) → CronWorks tells cron old new numbers (Err of) → CronWorks tells cron old new numbers result
 works_at tells cron old new numbers of (Ok done) same works = absurd same
-works_at tells cron old new numbers of (Err other) same works = subst (λ (one : StoreFault). CronWorks tells cron old new numbers (Err one)) (sym same) works
+works_at tells cron old new numbers of (Err other) same works =
+    subst (λ (one : StoreFault). CronWorks tells cron old new numbers (Err one)) (sym same) works
 
 none_distinct : (numbers : List ℕ) → numbers ≡ [] → are_distinct numbers ≡ true
 none_distinct numbers none = subst (λ (l : List ℕ). are_distinct l ≡ true) (sym none) refl
@@ -70,7 +73,8 @@ none_distinct numbers none = subst (λ (l : List ℕ). are_distinct l ≡ true) 
 abbrev fails_with : StoreFault → Result (Unit {0}) StoreFault
 fails_with of = Err of
 
-same_cause : {T : Type 0} (before after : Session) (of : StoreFault) → CallsInside {T = T} fault.FileFault before after (Err of) → CallsInside fault.FileFault before after (fails_with of)
+same_cause : {T : Type 0} (before after : Session) (of : StoreFault) → CallsInside {T = T} fault.FileFault before after (Err of)
+    → CallsInside fault.FileFault before after (fails_with of)
 same_cause before after of inside =
     record { stays = inside.stays; cause = record { later = inside.cause.later; rose = λ bad. inside.cause.rose (same_fault of bad) } }
 
@@ -81,30 +85,46 @@ module _ (tells : Bool) (cron : Cron) (before between : Session) (old middle : W
       ((damage : Damage) → of ≡ fault.Damaged damage → tells ≡ true → CronLeaves cron numbers old middle (Damaged damage)) →
       CronWorks tells cron (record { session = before; world = old }) (record { session = after; world = middle }) numbers (Err of)
   by_fault after fault.FileFault reads inside recovery damaged =
-      record { inside = inside; unread = tt; distinct = none_distinct numbers none; leaves = λ known. inl (idle_after old middle numbers none (recovery known)) }
+      record {
+        inside = inside;
+        unread = tt;
+        distinct = none_distinct numbers none;
+        leaves = λ known. inl (idle_after old middle numbers none (recovery known));
+      }
   by_fault after fault.Memory reads inside recovery damaged =
-      record { inside = inside; unread = tt; distinct = none_distinct numbers none; leaves = λ known. inl (idle_after old middle numbers none (recovery known)) }
+      record {
+        inside = inside;
+        unread = tt;
+        distinct = none_distinct numbers none;
+        leaves = λ known. inl (idle_after old middle numbers none (recovery known));
+      }
   by_fault after (fault.Damaged damage) reads inside recovery damaged =
       record { inside = inside; unread = none; distinct = none_distinct numbers none; leaves = damaged damage refl }
   by_fault after _ reads inside recovery damaged = absurd reads
 
   -- The recovery failed.
   pub not_recovered : (of : StoreFault) → IsReadingFault of → CallsInside {T = Kept} fault.FileFault before between (Err of) →
-      (tells ≡ true → ChangesFiles (ShowsAsBefore old.now.directory) old middle) → (tells ≡ true → Recovered old.now.directory middle.now.directory (Err of)) →
+      (tells ≡ true → ChangesFiles (ShowsAsBefore old.now.directory) old middle)
+      → (tells ≡ true → Recovered old.now.directory middle.now.directory (Err of)) →
       CronWorks tells cron (record { session = before; world = old }) (record { session = between; world = middle }) numbers (Err of)
   not_recovered of reads inside recovery recovered =
       by_fault between of reads (same_cause before between of inside) recovery
-      (λ damage is known.
-      (inl (subst (λ (one : StoreFault). Recovered old.now.directory middle.now.directory (Err one)) is (recovered known)), idle_after old middle numbers none (recovery known)))
+      (λ damage is known. (
+        inl (subst (λ (one : StoreFault). Recovered old.now.directory middle.now.directory (Err one)) is (recovered known)),
+        idle_after old middle numbers none (recovery known),
+      ))
 
-  module _ (kept : Kept) (entered : CallsInside {T = Kept} fault.FileFault before between (Ok kept)) (recovery : tells ≡ true → ChangesFiles (ShowsAsBefore old.now.directory) old middle)
-      (recovered : tells ≡ true → IsRecovered old.now.directory middle.now.directory kept) (stood : Session) (read : World) (looks : tells ≡ true → read ≡ middle) where
+  module _ (kept : Kept) (entered : CallsInside {T = Kept} fault.FileFault before between (Ok kept)) (recovery : tells ≡ true
+      → ChangesFiles (ShowsAsBefore old.now.directory) old middle)
+      (recovered : tells ≡ true → IsRecovered old.now.directory middle.now.directory kept) (stood : Session) (read : World)
+      (looks : tells ≡ true → read ≡ middle) where
     -- as the mark was read, nothing changed
     recovery_on : tells ≡ true → ChangesFiles (ShowsAsBefore old.now.directory) old read
     recovery_on known = subst (ChangesFiles (ShowsAsBefore old.now.directory) old) (sym (looks known)) (recovery known)
 
     recovered_on : tells ≡ true → IsRecovered old.now.directory read.now.directory kept
-    recovered_on known = subst (λ (world : World). IsRecovered old.now.directory world.now.directory kept) (sym (looks known)) (recovered known)
+    recovered_on known =
+        subst (λ (world : World). IsRecovered old.now.directory world.now.directory kept) (sym (looks known)) (recovered known)
 
     durable_on : tells ≡ true → IsDurableAt mark_temp read.now.directory
     durable_on known = temp_durable old read kept (recovered_on known)
@@ -117,12 +137,15 @@ module _ (tells : Bool) (cron : Cron) (before between : Session) (old middle : W
       inside = works.inside;
       unread = works.unread;
       distinct = works.distinct;
-      leaves = λ known. subst (λ (world : World). CronLeaves cron numbers old world (cron_end_by of)) (sym (looks known)) (works.leaves known);
+      leaves =
+          λ known. subst (λ (world : World). CronLeaves cron numbers old world (cron_end_by of)) (sym (looks known)) (works.leaves known);
     } where
       works : CronWorks tells cron (record { session = before; world = old }) (record { session = stood; world = middle }) numbers (Err of)
       works = by_fault stood of reads
-          (same_cause before stood of (calls_then {T = Kept} {U = Option ℕ} fault.FileFault fault.FileFault before between stood (Ok kept) (Err of) entered inside)) recovery
-          (λ damage is known. mark_damaged cron old middle kept (recovery known) (recovered known) numbers none damage (damaged known damage (ap (λ (one : StoreFault). Err one) is)))
+          (same_cause before stood of (calls_then {T = Kept} {U = Option ℕ} fault.FileFault fault.FileFault before between stood (Ok kept)
+          (Err of) entered inside)) recovery
+          (λ damage is known. mark_damaged cron old middle kept (recovery known) (recovered known) numbers none damage
+          (damaged known damage (ap (λ (one : StoreFault). Err one) is)))
 
     module _ (marked : Option ℕ) (inside : CallsInside {T = Option ℕ} fault.FileFault between stood (Ok marked))
         (mark : tells ≡ true → IsMark (finite.get (reading middle) mark_file) marked) where
@@ -130,7 +153,8 @@ module _ (tells : Bool) (cron : Cron) (before between : Session) (old middle : W
       mark_on known = subst (λ (world : World). IsMark (finite.get (reading world) mark_file) marked) (sym (looks known)) (mark known)
 
       so_far : CallsInside {T = Option ℕ} fault.FileFault before stood (Ok marked)
-      so_far = calls_then {T = Kept} {U = Option ℕ} fault.FileFault fault.FileFault before between stood (Ok kept) (Ok marked) entered inside
+      so_far =
+          calls_then {T = Kept} {U = Option ℕ} fault.FileFault fault.FileFault before between stood (Ok kept) (Ok marked) entered inside
 
       -- The minute was had already.
       pub marked_already : (minute : ℕ) → marked ≡ Some minute → minute_of cron ≤ minute →
@@ -145,11 +169,13 @@ module _ (tells : Bool) (cron : Cron) (before between : Session) (old middle : W
       }
 
       -- What is due was submitted, or not.
-      pub due_worked : (after : Session) (new : World) (is : List ℕ) (result : Result (Unit {0}) StoreFault) → IsMarkedBefore (minute_of cron) marked →
+      pub due_worked : (after : Session) (new : World) (is : List ℕ) (result : Result (Unit {0}) StoreFault)
+          → IsMarkedBefore (minute_of cron) marked →
           SubmitsDue tells stood after read new kept cron is result →
           CronWorks tells cron (record { session = before; world = old }) (record { session = after; world = new }) is result
       due_worked after new is result early due = record {
-        inside = calls_then {T = Option ℕ} {U = Unit {0}} fault.FileFault fault.FileFault before stood after (Ok marked) result so_far due.inside;
+        inside = calls_then {T = Option ℕ} {U = Unit {0}} fault.FileFault fault.FileFault before stood after (Ok marked)
+            result so_far due.inside;
         unread = due.unread;
         distinct = due.distinct;
         leaves = λ known.

@@ -77,7 +77,8 @@ begins_none low high field rest begins = go begins.pattern begins.spelled
     go (byte ∷ pattern) e = cc
 
 begins_comment : (low high : ℕ) (text : List ℕ) (field : Field) (rest : List ℕ) → ¬ BeginsWithField low high (35 ∷ text) field rest
-begins_comment low high text field rest begins = go begins.pattern begins.spelled (field_complete low high begins.pattern field begins.field_spelled)
+begins_comment low high text field rest begins =
+    go begins.pattern begins.spelled (field_complete low high begins.pattern field begins.field_spelled)
   where
     go : (pattern : List ℕ) → 35 ∷ text ≡ pattern ++ begins.blank ∷ begins.others → field_in low high pattern ≡ Some field → ⊥
     go [] e read =
@@ -86,15 +87,18 @@ begins_comment low high text field rest begins = go begins.pattern begins.spelle
         cc
     go (byte ∷ pattern) e read =
         let at : byte ≡ 35 = cc in
-        let read_here : field_in low high (35 ∷ pattern) ≡ Some field = subst (λ (b : ℕ). field_in low high (b ∷ pattern) ≡ Some field) at read in
+        let read_here : field_in low high (35 ∷ pattern) ≡ Some field =
+        subst (λ (b : ℕ). field_in low high (b ∷ pattern) ≡ Some field) at read in
         none-some field (sym (field_none low high pattern) ∙ read_here)
 
-begins_counts : (low high : ℕ) (text : List ℕ) (field : Field) (rest : List ℕ) → BeginsWithField low high text field rest → is_empty_or_comment text ≡ false
+begins_counts : (low high : ℕ) (text : List ℕ) (field : Field) (rest : List ℕ) → BeginsWithField low high text field rest
+    → is_empty_or_comment text ≡ false
 begins_counts low high [] field rest begins = absurd (begins_none low high field rest begins)
 begins_counts low high (byte ∷ text) field rest begins = go (byte == 35) refl
   where
     go : (test : Bool) → (byte == 35) ≡ test → (byte == 35) ≡ false
-    go true e = absurd (begins_comment low high text field rest (subst (λ (b : ℕ). BeginsWithField low high (b ∷ text) field rest) (eqb-true _ _ e) begins))
+    go true e = absurd (begins_comment low high text field rest
+        (subst (λ (b : ℕ). BeginsWithField low high (b ∷ text) field rest) (eqb-true _ _ e) begins))
     go false e = e
 
 -- an entry is not ignored
@@ -106,7 +110,8 @@ abbrev pub IsGoodLine : List CronEntry → List ℕ → List CronEntry → Type 
 IsGoodLine entries line more =
     ((is_ignored line ≡ true) × (entries ≡ more)) ⊎ ((entry : CronEntry) × SpellsEntry line entry × (entries ++ entry ∷ [] ≡ more))
 
-pub good_line : (entries : List CronEntry) (line : List ℕ) (more : List CronEntry) → with_line entries line ≡ Some more → IsGoodLine entries line more
+pub good_line : (entries : List CronEntry) (line : List ℕ) (more : List CronEntry) → with_line entries line ≡ Some more
+    → IsGoodLine entries line more
 unfolding with_line
 good_line entries line more e = go (cond_either _ _ _ _ e)
   where
@@ -122,7 +127,8 @@ pub ignored_line : (entries : List CronEntry) (line : List ℕ) → is_ignored l
 unfolding with_line
 ignored_line entries line ignored = rw ignored refl
 
-pub entry_line : (entries : List CronEntry) (line : List ℕ) (entry : CronEntry) → SpellsEntry line entry → with_line entries line ≡ Some (entries ++ entry ∷ [])
+pub entry_line : (entries : List CronEntry) (line : List ℕ) (entry : CronEntry) → SpellsEntry line entry
+    → with_line entries line ≡ Some (entries ++ entry ∷ [])
 unfolding with_line
 entry_line entries line entry spelled = rw (entry_counts line entry spelled, entry_complete line entry spelled) refl
 

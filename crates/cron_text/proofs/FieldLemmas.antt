@@ -17,7 +17,8 @@ use Rattle.cron_text.proofs.SpanLemmas.{element_sound, element_complete}
 abbrev ReadsAs : ℕ → ℕ → ℕ → List (List ℕ) → ℕ → Type 0
 ReadsAs low high bits elements all = (spans : List (ℕ × ℕ)) × SpellElements low high elements spans × (all ≡ with_bits bits spans)
 
-elements_sound : (low high bits : ℕ) (elements : List (List ℕ)) (all : ℕ) → elements_in low high bits elements ≡ Some all → ReadsAs low high bits elements all
+elements_sound : (low high bits : ℕ) (elements : List (List ℕ)) (all : ℕ) → elements_in low high bits elements ≡ Some all
+    → ReadsAs low high bits elements all
 unfolding elements_in with_bits
 elements_sound low high bits [] all e = ([], tt, cc)
 elements_sound low high bits (element ∷ elements) all e =
@@ -32,7 +33,8 @@ elements_complete low high bits [] [] spelled = refl
 elements_complete low high bits [] (span ∷ spans) spelled = absurd spelled
 elements_complete low high bits (element ∷ elements) [] spelled = absurd spelled
 elements_complete low high bits (element ∷ elements) (span ∷ spans) spelled =
-    rw (element_complete low high element span spelled.0) (elements_complete low high (bit_or bits (bits_between span)) elements spans spelled.1)
+    rw (element_complete low high element span spelled.0)
+    (elements_complete low high (bit_or bits (bits_between span)) elements spans spelled.1)
 
 -- an asterisk is no list
 no_list : (low high : ℕ) (spans : List (ℕ × ℕ)) → ¬ SpellElements low high (elements_of (codes "*")) spans
@@ -69,7 +71,8 @@ field_complete low high text field (asterisk spelled star bits) =
 field_complete low high text field (list spans spelled star bits) = go (bytes_eq text (codes "*")) refl
   where
     go : (test : Bool) → bytes_eq text (codes "*") ≡ test → field_in low high text ≡ Some field
-    go true e = absurd (no_list low high spans (subst (λ (t : List ℕ). SpellElements low high (elements_of t) spans) ((bytes_eq-Decides text (codes "*")).0 e) spelled))
+    go true e = absurd (no_list low high spans
+        (subst (λ (t : List ℕ). SpellElements low high (elements_of t) spans) ((bytes_eq-Decides text (codes "*")).0 e) spelled))
     go false e =
         let same : with_bits 0 spans ≡ field.bits = one_bits spans _ _ (with_bits-spans spans) bits in
         rw (e, elements_complete low high 0 (elements_of text) spans spelled, same, ← star)

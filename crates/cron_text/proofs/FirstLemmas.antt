@@ -33,7 +33,8 @@ position-pattern (byte ∷ pattern) blank others whole parted =
     rw (first, more) (omega arith)
 
 -- one more byte at the beginning
-prefix-cons : (byte : ℕ) (prefix : List ℕ) (passes : Bool) → is_no_blank byte ≡ passes → IsTrue (has_no_blank prefix) → IsTrue (has_no_blank (cond passes (byte ∷ prefix) []))
+prefix-cons : (byte : ℕ) (prefix : List ℕ) (passes : Bool) → is_no_blank byte ≡ passes → IsTrue (has_no_blank prefix)
+    → IsTrue (has_no_blank (cond passes (byte ∷ prefix) []))
 prefix-cons byte prefix true passed each = rw passed each
 prefix-cons byte prefix false failed each = refl
 
@@ -41,13 +42,15 @@ prefix-cons byte prefix false failed each = refl
 prefix-whole : (bytes : List ℕ) → IsTrue (has_no_blank (take_while is_no_blank bytes))
 prefix-whole [] = refl
 prefix-whole (byte ∷ bytes) =
-    rw (take_while-cons is_no_blank byte bytes) (prefix-cons byte (take_while is_no_blank bytes) (is_no_blank byte) refl (prefix-whole bytes))
+    rw (take_while-cons is_no_blank byte bytes)
+    (prefix-cons byte (take_while is_no_blank bytes) (is_no_blank byte) refl (prefix-whole bytes))
 
 -- the blanks next to one count with it
 after_blank : (blank : ℕ) (others : List ℕ) → is_blank blank ≡ true → after_blanks (blank ∷ others) ≡ after_blanks others
 after_blank blank others parted = rw parted refl
 
-pub first_sound : (low high : ℕ) (text : List ℕ) (field : Field) (rest : List ℕ) → first_in low high text ≡ Some (field, rest) → BeginsWithField low high text field rest
+pub first_sound : (low high : ℕ) (text : List ℕ) (field : Field) (rest : List ℕ) → first_in low high text ≡ Some (field, rest)
+    → BeginsWithField low high text field rest
 unfolding first_in
 first_sound low high text field rest e =
     and_then_some _ (position is_blank text) (field, rest) e λ count at e₁.
@@ -72,7 +75,8 @@ first_sound low high text field rest e =
       rest_is = sym same.1 ∙ rw (← counted, tail) (after_blank blank others parted);
     }
 
-first_complete_at : (low high : ℕ) (pattern : List ℕ) (blank : ℕ) (others : List ℕ) (field : Field) → IsTrue (has_no_blank pattern) → is_blank blank ≡ true
+first_complete_at : (low high : ℕ) (pattern : List ℕ) (blank : ℕ) (others : List ℕ) (field : Field)
+    → IsTrue (has_no_blank pattern) → is_blank blank ≡ true
     → SpellsField low high pattern field → first_in low high (pattern ++ blank ∷ others) ≡ Some (field, after_blanks others)
 unfolding first_in
 first_complete_at low high pattern blank others field whole parted spelled =
@@ -87,6 +91,8 @@ first_complete_at low high pattern blank others field whole parted spelled =
       parted,
     )
 
-pub first_complete : (low high : ℕ) (text : List ℕ) (field : Field) (rest : List ℕ) → BeginsWithField low high text field rest → first_in low high text ≡ Some (field, rest)
+pub first_complete : (low high : ℕ) (text : List ℕ) (field : Field) (rest : List ℕ) → BeginsWithField low high text field rest
+    → first_in low high text ≡ Some (field, rest)
 first_complete low high text field rest begins =
-    rw (begins.spelled, begins.rest_is) (first_complete_at low high begins.pattern begins.blank begins.others field begins.whole begins.parted begins.field_spelled)
+    rw (begins.spelled, begins.rest_is)
+    (first_complete_at low high begins.pattern begins.blank begins.others field begins.whole begins.parted begins.field_spelled)

@@ -19,10 +19,12 @@ after_blanks-few (byte ∷ bytes) = go (is_blank byte) (after_blanks-few bytes)
     go true few = omega arith
     go false few = omega arith
 
-rest-few : (low high : ℕ) (text : List ℕ) (field : Field) (rest : List ℕ) → BeginsWithField low high text field rest → length rest ≤ length text
+rest-few : (low high : ℕ) (text : List ℕ) (field : Field) (rest : List ℕ) → BeginsWithField low high text field rest
+    → length rest ≤ length text
 rest-few low high text field rest begins =
     let few = after_blanks-few begins.others in
-    let all : length text ≡ length begins.pattern + length (begins.blank ∷ begins.others) = ap length begins.spelled ∙ length-append begins.pattern (begins.blank ∷ begins.others) in
+    let all : length text ≡ length begins.pattern + length (begins.blank ∷ begins.others) = ap length begins.spelled
+    ∙ length-append begins.pattern (begins.blank ∷ begins.others) in
     let same : length rest ≡ length (after_blanks begins.others) = ap length begins.rest_is in
     omega arith
 
@@ -44,7 +46,8 @@ HasFew most line = length line ≤ most
 abbrev pub HasFewInCommand : ℕ → CronEntry → Type 0
 HasFewInCommand most entry = length entry.command ≤ most
 
-first-few : (byte most more : ℕ) (parts : List (List ℕ)) → most + 1 ≤ more → All (HasFew most) parts → All (HasFew more) (onto_first byte parts)
+first-few : (byte most more : ℕ) (parts : List (List ℕ)) → most + 1 ≤ more → All (HasFew most) parts
+    → All (HasFew more) (onto_first byte parts)
 first-few byte most more [] greater few = All-cons (HasFew more) (byte ∷ []) [] (omega arith) (All-nil (HasFew more))
 first-few byte most more (part ∷ parts) greater few =
     let first : length part ≤ most = All-head (HasFew most) part parts few in
@@ -56,19 +59,24 @@ lines-few : (text : List ℕ) → All (HasFew (length text)) (lines_of text)
 lines-few [] = All-cons (HasFew 0) [] [] (omega arith) (All-nil (HasFew 0))
 lines-few (byte ∷ text) = go (byte == 10) refl (lines-few text)
   where
-    go : (newline : Bool) → (byte == 10) ≡ newline → All (HasFew (length text)) (lines_of text) → All (HasFew (length (byte ∷ text))) (lines_of (byte ∷ text))
+    go : (newline : Bool) → (byte == 10) ≡ newline → All (HasFew (length text)) (lines_of text)
+        → All (HasFew (length (byte ∷ text))) (lines_of (byte ∷ text))
     go true e few =
-        All-same (HasFew (length (byte ∷ text))) (lines_of (byte ∷ text)) ([] ∷ lines_of text) (slice_split-cons_yes (λ (b : ℕ). b == 10) byte text e)
+        All-same (HasFew (length (byte ∷ text))) (lines_of (byte ∷ text)) ([] ∷ lines_of text)
+        (slice_split-cons_yes (λ (b : ℕ). b == 10) byte text e)
         (All-cons (HasFew (length (byte ∷ text))) [] (lines_of text) (omega arith)
         (All-weaker (HasFew (length text)) (HasFew (length (byte ∷ text))) (λ line less. omega arith) (lines_of text) few))
     go false e few =
-        All-same (HasFew (length (byte ∷ text))) (lines_of (byte ∷ text)) (onto_first byte (lines_of text)) (slice_split-cons_no (λ (b : ℕ). b == 10) byte text e)
+        All-same (HasFew (length (byte ∷ text))) (lines_of (byte ∷ text)) (onto_first byte (lines_of text))
+        (slice_split-cons_no (λ (b : ℕ). b == 10) byte text e)
         (first-few byte (length text) (length (byte ∷ text)) (lines_of text) (omega arith) few)
 
-entries-few : (most : ℕ) (lines : List (List ℕ)) (entries : List CronEntry) → All (HasFew most) lines → AreCrontabLines lines entries → All (HasFewInCommand most) entries
+entries-few : (most : ℕ) (lines : List (List ℕ)) (entries : List CronEntry) → All (HasFew most) lines → AreCrontabLines lines entries
+    → All (HasFewInCommand most) entries
 entries-few most [] [] few no_line = All-nil (HasFewInCommand most)
 entries-few most [] (entry ∷ entries) few are = elim are [ ]
-entries-few most (line ∷ lines) entries few (ignored _ is_ignored are) = entries-few most lines entries (All-tail (HasFew most) line lines few) are
+entries-few most (line ∷ lines) entries few (ignored _ is_ignored are) =
+    entries-few most lines entries (All-tail (HasFew most) line lines few) are
 entries-few most (line ∷ lines) (entry ∷ entries) few (an_entry _ _ spelled are) =
     let first : length line ≤ most = All-head (HasFew most) line lines few in
     let command = command-few line entry spelled in

@@ -13,7 +13,8 @@ use Rattle.cron_text.proofs.EntryLemmas.{IsGoodLine, good_line, bad_line, bad_li
 abbrev pub Lines : Type 0
 Lines = Result (List CronEntry) ℕ
 
-lines_in-good : (entries : List CronEntry) (count : ℕ) (line : List ℕ) (lines : List (List ℕ)) (more : List CronEntry) → with_line entries line ≡ Some more
+lines_in-good : (entries : List CronEntry) (count : ℕ) (line : List ℕ) (lines : List (List ℕ)) (more : List CronEntry)
+    → with_line entries line ≡ Some more
     → lines_in entries count (line ∷ lines) ≡ lines_in more (count + 1) lines
 unfolding lines_in
 lines_in-good entries count line lines more e = rw (e, lines_in) refl
@@ -55,7 +56,8 @@ no_Ok entries number e = cc
 abbrev Reads : List CronEntry → List (List ℕ) → List CronEntry → Type 0
 Reads entries lines all = (more : List CronEntry) × AreCrontabLines lines more × (all ≡ entries ++ more)
 
-lines_sound : (entries : List CronEntry) (count : ℕ) (lines : List (List ℕ)) (all : List CronEntry) → lines_in entries count lines ≡ Ok all → Reads entries lines all
+lines_sound : (entries : List CronEntry) (count : ℕ) (lines : List (List ℕ)) (all : List CronEntry) → lines_in entries count lines ≡ Ok all
+    → Reads entries lines all
 unfolding lines_in
 lines_sound entries count [] all e = ([], no_line, sym (same_Ok _ _ e) ∙ sym (append-nil entries))
 lines_sound entries count (line ∷ lines) all e = go (λ more. lines_sound more (count + 1) lines all) (with_line entries line) refl
@@ -82,7 +84,8 @@ record StopsAt (count : ℕ) (lines : List (List ℕ)) (number : ℕ) : Type 0 w
   is_bad : IsBadLine bad
   counted : number ≡ count + length before + 1
 
-lines_stop : (entries : List CronEntry) (count : ℕ) (lines : List (List ℕ)) (number : ℕ) → lines_in entries count lines ≡ Err number → StopsAt count lines number
+lines_stop : (entries : List CronEntry) (count : ℕ) (lines : List (List ℕ)) (number : ℕ) → lines_in entries count lines ≡ Err number
+    → StopsAt count lines number
 unfolding lines_in
 lines_stop entries count [] number e = absurd (no_Ok entries number e)
 lines_stop entries count (line ∷ lines) number e = go (λ more. lines_stop more (count + 1) lines number) (with_line entries line) refl
@@ -130,19 +133,23 @@ lines_stop entries count (line ∷ lines) number e = go (λ more. lines_stop mor
           counted = omega arith;
         }
 
-lines_complete : (entries : List CronEntry) (count : ℕ) (lines : List (List ℕ)) (more : List CronEntry) → AreCrontabLines lines more → lines_in entries count lines ≡ Ok (entries ++ more)
+lines_complete : (entries : List CronEntry) (count : ℕ) (lines : List (List ℕ)) (more : List CronEntry) → AreCrontabLines lines more
+    → lines_in entries count lines ≡ Ok (entries ++ more)
 unfolding lines_in
 lines_complete entries count [] [] no_line = ap Ok (sym (append-nil entries))
 lines_complete entries count [] (entry ∷ more) are = elim are [ ]
 lines_complete entries count (line ∷ lines) more (ignored _ is_ignored are) =
-    lines_in-good entries count line lines entries (ignored_line entries line is_ignored) ∙ lines_complete entries (count + 1) lines more are
+    lines_in-good entries count line lines entries (ignored_line entries line is_ignored)
+    ∙ lines_complete entries (count + 1) lines more are
 lines_complete entries count (line ∷ lines) (entry ∷ more) (an_entry _ _ spelled are) =
     lines_in-good entries count line lines (entries ++ entry ∷ []) (entry_line entries line entry spelled)
     ∙ lines_complete (entries ++ entry ∷ []) (count + 1) lines more are ∙ ap Ok (append_assoc entries (entry ∷ []) more)
 
-bad_complete : (entries : List CronEntry) (count : ℕ) (before : List (List ℕ)) (more : List CronEntry) (bad : List ℕ) (after : List (List ℕ))
+bad_complete : (entries : List CronEntry) (count : ℕ) (before : List (List ℕ)) (more : List CronEntry)
+    (bad : List ℕ) (after : List (List ℕ))
     → AreCrontabLines before more → IsBadLine bad → lines_in entries count (before ++ bad ∷ after) ≡ Err (count + length before + 1)
-bad_complete entries count [] [] bad after no_line is_bad = lines_in-bad entries count bad after (bad_line_is entries bad is_bad) ∙ ap Err (omega arith)
+bad_complete entries count [] [] bad after no_line is_bad =
+    lines_in-bad entries count bad after (bad_line_is entries bad is_bad) ∙ ap Err (omega arith)
 bad_complete entries count [] (entry ∷ more) bad after are is_bad = elim are [ ]
 bad_complete entries count (line ∷ before) more bad after (ignored _ is_ignored are) is_bad =
     lines_in-good entries count line (before ++ bad ∷ after) entries (ignored_line entries line is_ignored)

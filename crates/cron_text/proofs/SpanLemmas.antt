@@ -18,7 +18,8 @@ number_alone text number (one_digit ones digit spelled value) = rw (spelled, dig
 number_alone text number (two_digits tens ones first second spelled value) = rw (spelled, first, second, value)
 
 -- a number with a hyphen after it
-pub number_hyphen : (text : List ℕ) (number : ℕ) (rest : List ℕ) → SpellsCronNumber text number → number_before (text ++ 45 ∷ rest) ≡ Some (number, 45 ∷ rest)
+pub number_hyphen : (text : List ℕ) (number : ℕ) (rest : List ℕ) → SpellsCronNumber text number
+    → number_before (text ++ 45 ∷ rest) ≡ Some (number, 45 ∷ rest)
 unfolding number_before digit_before two_digits_in
 number_hyphen text number rest (one_digit ones digit spelled value) = rw (spelled, digit, value)
 number_hyphen text number rest (two_digits tens ones first second spelled value) = rw (spelled, first, second, value)
@@ -65,7 +66,8 @@ whole_sound text rest number begins none =
     let same : text ≡ begins.0 = begins.2 ∙ ap (λ r. begins.0 ++ r) nothing ∙ append-nil begins.0 in
     subst (λ (t : List ℕ). SpellsCronNumber t number) (sym same) begins.1
 
-from_sound : (text rest : List ℕ) (first : ℕ) (span : ℕ × ℕ) → BeginsWithNumber text first rest → range_from first rest ≡ Some span → SpellsSpan text span
+from_sound : (text rest : List ℕ) (first : ℕ) (span : ℕ × ℕ) → BeginsWithNumber text first rest
+    → range_from first rest ≡ Some span → SpellsSpan text span
 unfolding range_from range_to
 from_sound text [] first span begins e = one_number first (whole_sound text [] first begins refl) (sym (same_Some _ _ e))
 from_sound text (hyphen ∷ rest) first span begins e =
@@ -102,7 +104,8 @@ element_sound low high text span e =
       within = record { from_low = from_low; forwards = forwards; to_high = to_high };
     })
 
-pub element_complete : (low high : ℕ) (text : List ℕ) (span : ℕ × ℕ) → SpellsElement low high text span → element_in low high text ≡ Some span
+pub element_complete : (low high : ℕ) (text : List ℕ) (span : ℕ × ℕ) → SpellsElement low high text span
+    → element_in low high text ≡ Some span
 unfolding element_in
 element_complete low high text span element =
     let from_low = element.within.from_low in

@@ -66,8 +66,10 @@ pub idle_day : (zone : Zone) (entry : CronEntry) (day minute : ℕ) → AreIdleD
 idle_day zone entry day minute idle is k late early due =
     let shown = due.shown in
     let bound = offset_bound (rules_of zone) (nanos_of_seconds (pos (60 * k))) in
-    let from : pos day ≤ℤ (day_of due.civil +ℤ pos 2) = omega (arith, signed_arith, shown.shows, shown.time.hour, shown.time.minute, shown.time.second, bound.0, bound.1, late, is) in
-    let to : (day_of due.civil +ℤ pos 2) <ℤ pos (day + 5) = omega (arith, signed_arith, shown.shows, shown.time.hour, shown.time.minute, shown.time.second, bound.0, bound.1, early, is) in
+    let from : pos day ≤ℤ (day_of due.civil +ℤ pos 2) =
+    omega (arith, signed_arith, shown.shows, shown.time.hour, shown.time.minute, shown.time.second, bound.0, bound.1, late, is) in
+    let to : (day_of due.civil +ℤ pos 2) <ℤ pos (day + 5) =
+    omega (arith, signed_arith, shown.shows, shown.time.hour, shown.time.minute, shown.time.second, bound.0, bound.1, early, is) in
     let date : ℕ = unsigned_abs (day_of due.civil +ℤ pos 2) in
     let natural : pos date ≡ day_of due.civil +ℤ pos 2 = as_natural (day_of due.civil +ℤ pos 2) (omega (arith, signed_arith, from)) in
     let sum : pos date -ℤ pos 2 ≡ day_of due.civil = omega (arith, signed_arith, natural) in
@@ -81,16 +83,38 @@ idle_day zone entry day minute idle is k late early due =
     }))
     due.due
 
-same_due : (entry : CronEntry) (a b : CivilMinute) → a.minute ≡ b.minute → a.hour ≡ b.hour → a.month ≡ b.month → a.day ≡ b.day → a.weekday ≡ b.weekday
+same_due : (entry : CronEntry) (a b : CivilMinute) → a.minute ≡ b.minute → a.hour ≡ b.hour → a.month ≡ b.month
+    → a.day ≡ b.day → a.weekday ≡ b.weekday
     → is_entry_due entry a ≡ is_entry_due entry b
 same_due entry a b minute hour month day weekday = rw (minute, hour, month, day, weekday) refl
 
 -- a clock shows one time
-one_time : (entry : CronEntry) (zone : Zone) (at : ℤ) (a b : CivilMinute) → IsCivilTime zone at a → IsCivilTime zone at b → is_entry_due entry a ≡ is_entry_due entry b
+one_time : (entry : CronEntry) (zone : Zone) (at : ℤ) (a b : CivilMinute) → IsCivilTime zone at a → IsCivilTime zone at b
+    → is_entry_due entry a ≡ is_entry_due entry b
 one_time entry zone at a b first second =
     let shows = first.shows ∙ sym second.shows in
-    let day : day_of a ≡ day_of b = omega (arith, signed_arith, shows, first.time.hour, first.time.minute, first.time.second, second.time.hour, second.time.minute, second.time.second) in
-    let seconds : second_of_day a ≡ second_of_day b = omega (arith, signed_arith, shows, first.time.hour, first.time.minute, first.time.second, second.time.hour, second.time.minute, second.time.second) in
+    let day : day_of a ≡ day_of b = omega (
+      arith,
+      signed_arith,
+      shows,
+      first.time.hour,
+      first.time.minute,
+      first.time.second,
+      second.time.hour,
+      second.time.minute,
+      second.time.second,
+    ) in
+    let seconds : second_of_day a ≡ second_of_day b = omega (
+      arith,
+      signed_arith,
+      shows,
+      first.time.hour,
+      first.time.minute,
+      first.time.second,
+      second.time.hour,
+      second.time.minute,
+      second.time.second,
+    ) in
     let hour : a.hour ≡ b.hour = omega (arith, seconds, first.time.minute, first.time.second, second.time.minute, second.time.second) in
     let minute : a.minute ≡ b.minute = omega (arith, seconds, hour, first.time.second, second.time.second) in
     let date = epoch_day_injective (date_of a first.date) (date_of b second.date) day in
@@ -105,7 +129,8 @@ idle_minute zone entry minute civil shown idle k late early due =
     cc (one_time entry zone (pos (60 * minute)) civil due.civil shown at, idle, due.due)
 
 -- one date more
-pub dates_more : (entry : CronEntry) (first date : ℕ) (day : ℤ) → AreIdleDates entry first date → day ≡ pos date -ℤ pos 2 → IsIdleDate entry day → AreIdleDates entry first (date + 1)
+pub dates_more : (entry : CronEntry) (first date : ℕ) (day : ℤ) → AreIdleDates entry first date → day ≡ pos date -ℤ pos 2
+    → IsIdleDate entry day → AreIdleDates entry first (date + 1)
 dates_more entry first date day so_far is idle other late early =
     ⊎_elim
     (λ lt. so_far other late lt)

@@ -19,8 +19,10 @@ use Rattle.cron_turn.specs.inside.AddedLines.{GivesText}
 
 module _ (clock input : Bool) (zone : Zone) (request : NextRequest) (old new : ReadAt) where
   -- the listing of the entries that were read, or an out-of-memory error for it
-  pub gives_text : (entries : List CronEntry) (from : ℕ) (result : Result (List ℕ) CommandError) → (read : HasReadCrontab clock input request old new (Ok entries))
-      → from ≡ minute_at read.now + 1 → GivesText zone from request.count entries result → GivesListing clock input zone request old new result
+  pub gives_text : (entries : List CronEntry) (from : ℕ) (result : Result (List ℕ) CommandError)
+      → (read : HasReadCrontab clock input request old new (Ok entries))
+      → from ≡ minute_at read.now + 1 → GivesText zone from request.count entries result
+      → GivesListing clock input zone request old new result
   gives_text entries from (Ok text) read is text_is =
       the_listing entries text read (subst (λ (at : ℕ). IsCronListing zone at request.count entries text) is text_is)
   gives_text entries from (Err stopped) read is memory =
@@ -28,11 +30,15 @@ module _ (clock input : Bool) (zone : Zone) (request : NextRequest) (old new : R
 
 module _ (tells : Telling) (zone : Zone) (old new : ListingAt) where
   -- what the words request was done
-  pub lists_taken : (asked : Result NextRequest WordsFault) (request : NextRequest) (why : Cause) → Answers asked (Ok request) → IsListed tells zone request old new why → ListsOrLacksMemory asked tells zone old new why
+  pub lists_taken : (asked : Result NextRequest WordsFault) (request : NextRequest) (why : Cause) → Answers asked (Ok request)
+      → IsListed tells zone request old new why → ListsOrLacksMemory asked tells zone old new why
   lists_taken asked request why answers listed = inr (subst (λ of. ListsAsRequested of tells zone old new why) answers listed)
 
   -- they request nothing
-  pub lists_refused : (asked : Result NextRequest WordsFault) (fault : WordsFault) → Answers asked (Err fault) → new ≡ old → ListsOrLacksMemory asked tells zone old new (words_cause fault)
-  lists_refused asked Usage answers same = inr (subst (λ of. ListsAsRequested of tells zone old new (words_cause Usage)) answers (refl, same))
-  lists_refused asked BadQueue answers same = inr (subst (λ of. ListsAsRequested of tells zone old new (words_cause BadQueue)) answers (refl, same))
+  pub lists_refused : (asked : Result NextRequest WordsFault) (fault : WordsFault) → Answers asked (Err fault) → new ≡ old
+      → ListsOrLacksMemory asked tells zone old new (words_cause fault)
+  lists_refused asked Usage answers same =
+      inr (subst (λ of. ListsAsRequested of tells zone old new (words_cause Usage)) answers (refl, same))
+  lists_refused asked BadQueue answers same =
+      inr (subst (λ of. ListsAsRequested of tells zone old new (words_cause BadQueue)) answers (refl, same))
   lists_refused asked NoMemory answers same = inl (refl, same)

@@ -48,7 +48,8 @@ rested_readers : (tells : Bool) (rest : Option ℕ) (old new : ClockAt) → Rest
 rested_readers tells None old new rests = ap (λ clock. clock.readers) rests
 rested_readers tells (Some seconds) old new rests = rests.readers
 
-pub stays_rested : (tells : Bool) (rest : Option ℕ) (at : WorkAt CronAt) (new : ClockAt) → IsOutside at.spool.session → RestsOn tells rest at.clock new
+pub stays_rested : (tells : Bool) (rest : Option ℕ) (at : WorkAt CronAt) (new : ClockAt) → IsOutside at.spool.session
+    → RestsOn tells rest at.clock new
     → StaysSo at (record { spool = at.spool; clock = new; input = at.input; said = at.said })
 stays_rested tells rest at new outside rests = record {
   left = left_so at.spool.session outside;
@@ -64,18 +65,25 @@ pub rests_before : (tells : Bool) (rest : Option ℕ) (at : WorkAt CronAt) (new 
 rests_before tells rest at new rests = record { clock = rests; spool = refl; input = refl; said = refl }
 
 -- one more session, by whether another may come
-pub turned : (tells : Telling) (caller : Caller) (path : List ℕ) (next : Option ℕ) (item : CronItem) (old new : WorkAt CronAt) (result : Option Cause) → IsSessionMade tells caller path item old new
-    → SaysSession tells.errors item.end old.said new.said result → next ≡ Some (rest_after_session item.end item.now) → Turns tells caller path next old new result
+pub turned : (tells : Telling) (caller : Caller) (path : List ℕ) (next : Option ℕ) (item : CronItem) (old new : WorkAt CronAt)
+    (result : Option Cause) → IsSessionMade tells caller path item old new
+    → SaysSession tells.errors item.end old.said new.said result → next ≡ Some (rest_after_session item.end item.now)
+    → Turns tells caller path next old new result
 turned tells caller path next item old new None made says next_is = record { item = item; made = made; says = says; next_is = next_is }
 turned tells caller path next item old new (Some cause) made says next_is = inr (record { item = item; made = made; says = says })
 
 module _ (tells : Telling) (caller : Caller) (path : List ℕ) (first : WorkAt CronAt) where
   -- no session was made
   pub none_served : (rest : Option ℕ) → rest ≡ None → HasMadeSessions tells caller path 0 rest first first
-  none_served rest none = record { items = []; counted = refl; serves = subst (λ seconds. MakesCronSessions tells caller path first [] seconds first) (sym none) no_session }
+  none_served rest none = record {
+    items = [];
+    counted = refl;
+    serves = subst (λ seconds. MakesCronSessions tells caller path first [] seconds first) (sym none) no_session;
+  }
 
   -- one more was made
-  pub one_served : (count : ℕ) (rest next : Option ℕ) (now rested after : WorkAt CronAt) → HasMadeSessions tells caller path count rest first now → RestsBefore tells.clock rest now rested
+  pub one_served : (count : ℕ) (rest next : Option ℕ) (now rested after : WorkAt CronAt)
+      → HasMadeSessions tells caller path count rest first now → RestsBefore tells.clock rest now rested
       → ContinuesAfter tells caller path next rested after → HasMadeSessions tells caller path (count + 1) next first after
   one_served count rest next now rested after has rests goes = record {
     items = has.items ++ goes.item ∷ [];
@@ -85,8 +93,10 @@ module _ (tells : Telling) (caller : Caller) (path : List ℕ) (first : WorkAt C
   }
 
   -- the next one ended it
-  pub served_short : (request : CronRequest) (count : ℕ) (rest : Option ℕ) (now rested after : WorkAt CronAt) (cause : Cause) → request.file ≡ path → count < request.turns → HasMadeSessions tells caller path count rest first now
-      → RestsBefore tells.clock rest now rested → Stops tells caller path rested after cause → RunsSessions tells caller request first after cause
+  pub served_short : (request : CronRequest) (count : ℕ) (rest : Option ℕ) (now rested after : WorkAt CronAt) (cause : Cause)
+      → request.file ≡ path → count < request.turns → HasMadeSessions tells caller path count rest first now
+      → RestsBefore tells.clock rest now rested → Stops tells caller path rested after cause
+      → RunsSessions tells caller request first after cause
   served_short request count rest now rested after cause same few has rests stops = record {
     items = has.items;
     rest = rest;
@@ -97,7 +107,8 @@ module _ (tells : Telling) (caller : Caller) (path : List ℕ) (first : WorkAt C
   }
 
   -- all were made
-  pub served_all : (request : CronRequest) (count : ℕ) (rest : Option ℕ) (now : WorkAt CronAt) → request.file ≡ path → count ≡ request.turns → HasMadeSessions tells caller path count rest first now
+  pub served_all : (request : CronRequest) (count : ℕ) (rest : Option ℕ) (now : WorkAt CronAt) → request.file ≡ path → count ≡ request.turns
+      → HasMadeSessions tells caller path count rest first now
       → RunsSessions tells caller request first now Done
   served_all request count rest now same all has = record {
     items = has.items;

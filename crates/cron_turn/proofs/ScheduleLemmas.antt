@@ -13,7 +13,8 @@ use Rattle.cron_turn.specs.Schedule.{AreDueWithin, AreNextDue, IsDueWithin, IsNo
 use Rattle.cron_turn.specs.inside.Dates.{IsFirstDue}
 
 -- the first part of an idle stretch is one
-pub idle_up_to : (zone : Zone) (entry : CronEntry) (from middle end : ℕ) → middle ≤ end → IsNotDueWithin zone entry from end → IsNotDueWithin zone entry from middle
+pub idle_up_to : (zone : Zone) (entry : CronEntry) (from middle end : ℕ) → middle ≤ end → IsNotDueWithin zone entry from end
+    → IsNotDueWithin zone entry from middle
 idle_up_to zone entry from middle end few idle minute late early due = idle minute late (omega (arith, few, early)) due
 
 module _ (zone : Zone) (entry : CronEntry) (from : ℕ) where
@@ -26,10 +27,12 @@ module _ (zone : Zone) (entry : CronEntry) (from : ℕ) where
   }
 
   -- there is no other up to an end
-  pub no_more : (now end : ℕ) (minutes : List ℕ) → AreDueWithin zone entry from now minutes → now ≤ end → IsNotDueWithin zone entry now end → AreDueWithin zone entry from end minutes
+  pub no_more : (now end : ℕ) (minutes : List ℕ) → AreDueWithin zone entry from now minutes → now ≤ end → IsNotDueWithin zone entry now end
+      → AreDueWithin zone entry from end minutes
   no_more now end minutes has few idle = record {
     ascending = has.ascending;
-    due = All-weaker (IsDueWithin zone entry from now) (IsDueWithin zone entry from end) (λ minute due. record { late = due.late; early = omega (arith, due.early, few); due = due.due }) minutes has.due;
+    due = All-weaker (IsDueWithin zone entry from now) (IsDueWithin zone entry from end)
+        (λ minute due. record { late = due.late; early = omega (arith, due.early, few); due = due.due }) minutes has.due;
     all = λ minute due. ⊎_elim
         (λ lt. has.all minute (record { late = due.late; early = lt; due = due.due }))
         (λ ge. absurd (idle minute ge due.early due.due))
@@ -37,7 +40,8 @@ module _ (zone : Zone) (entry : CronEntry) (from : ℕ) where
   }
 
   -- the next one
-  pub one_more : (now end found : ℕ) (minutes : List ℕ) → AreDueWithin zone entry from now minutes → from ≤ now → IsDueWithin zone entry now end found → IsNotDueWithin zone entry now found
+  pub one_more : (now end found : ℕ) (minutes : List ℕ) → AreDueWithin zone entry from now minutes → from ≤ now
+      → IsDueWithin zone entry now end found → IsNotDueWithin zone entry now found
       → AreDueWithin zone entry from (found + 1) (minutes ++ found ∷ [])
   one_more now end found minutes has after is idle =
       let before = no_more now found minutes has is.late idle in
@@ -45,10 +49,12 @@ module _ (zone : Zone) (entry : CronEntry) (from : ℕ) where
         ascending = all_pairs_push (λ first second. first < second) minutes found has.ascending (λ k d lt. (before.due k d lt).early);
         due = All-push (IsDueWithin zone entry from (found + 1))
             minutes found
-            (All-weaker (IsDueWithin zone entry from found) (IsDueWithin zone entry from (found + 1)) (λ minute due. record { late = due.late; early = omega (arith, due.early); due = due.due }) minutes before.due)
+            (All-weaker (IsDueWithin zone entry from found) (IsDueWithin zone entry from (found + 1))
+            (λ minute due. record { late = due.late; early = omega (arith, due.early); due = due.due }) minutes before.due)
             (record { late = omega (arith, after, is.late); early = omega arith; due = is.due });
         all = λ minute due. ⊎_elim
-            (λ lt. Contains-append_left minutes (found ∷ []) minute (before.all minute (record { late = due.late; early = lt; due = due.due })))
+            (λ lt.
+            Contains-append_left minutes (found ∷ []) minute (before.all minute (record { late = due.late; early = lt; due = due.due })))
             (λ ge. subst (Contains (minutes ++ found ∷ [])) (omega (arith, ge, due.early)) (Contains-push minutes found))
             (cases_lt minute found);
       }
@@ -73,7 +79,8 @@ pub record Found (zone : Zone) (entry : CronEntry) (from now end count : ℕ) (m
 
 module _ (zone : Zone) (entry : CronEntry) (from : ℕ) where
   -- at its start
-  pub found_none : (end : ℕ) (minutes : List ℕ) → from ≤ LAST_MINUTE + 1 → end ≡ end_of_search from → minutes ≡ [] → Found zone entry from from end 0 minutes
+  pub found_none : (end : ℕ) (minutes : List ℕ) → from ≤ LAST_MINUTE + 1 → end ≡ end_of_search from → minutes ≡ []
+      → Found zone entry from from end 0 minutes
   found_none end minutes few is none = record {
     late = omega arith;
     early = subst (λ at. from ≤ at) (sym is) (end_bounds from few).0;
@@ -82,7 +89,8 @@ module _ (zone : Zone) (entry : CronEntry) (from : ℕ) where
   }
 
   -- and with one minute more
-  pub found_more : (now end count minute : ℕ) (minutes after : List ℕ) (next : Option ℕ) → Found zone entry from now end count minutes → IsFirstDue zone entry now end next
+  pub found_more : (now end count minute : ℕ) (minutes after : List ℕ) (next : Option ℕ) → Found zone entry from now end count minutes
+      → IsFirstDue zone entry now end next
       → next ≡ Some minute → after ≡ minutes ++ minute ∷ [] → Found zone entry from (minute + 1) end (count + 1) after
   found_more now end count minute minutes after next has first is pushed =
       let is_first : IsFirstDue zone entry now end (Some minute) = subst (IsFirstDue zone entry now end) is first in
@@ -90,11 +98,13 @@ module _ (zone : Zone) (entry : CronEntry) (from : ℕ) where
         late = omega (arith, has.late, is_first.0.late);
         early = omega (arith, is_first.0.early);
         counted = ap length pushed ∙ omega (arith, length-append minutes (minute ∷ []), has.counted);
-        are = subst (AreDueWithin zone entry from (minute + 1)) (sym pushed) (one_more zone entry from now end minute minutes has.are has.late is_first.0 is_first.1);
+        are = subst (AreDueWithin zone entry from (minute + 1)) (sym pushed)
+            (one_more zone entry from now end minute minutes has.are has.late is_first.0 is_first.1);
       }
 
   -- where there is no other
-  pub found_all : (now end count most : ℕ) (minutes : List ℕ) (next : Option ℕ) → Found zone entry from now end count minutes → IsFirstDue zone entry now end next → next ≡ None
+  pub found_all : (now end count most : ℕ) (minutes : List ℕ) (next : Option ℕ) → Found zone entry from now end count minutes
+      → IsFirstDue zone entry now end next → next ≡ None
       → end ≡ end_of_search from → count ≤ most → AreNextDue zone entry from most minutes
   found_all now end count most minutes next has first is end_is few = record {
     end = end;
@@ -105,7 +115,8 @@ module _ (zone : Zone) (entry : CronEntry) (from : ℕ) where
   }
 
   -- and where there are as many as are wanted
-  pub found_enough : (now end count most : ℕ) (minutes : List ℕ) → Found zone entry from now end count minutes → end ≡ end_of_search from → count ≡ most → AreNextDue zone entry from most minutes
+  pub found_enough : (now end count most : ℕ) (minutes : List ℕ) → Found zone entry from now end count minutes → end ≡ end_of_search from
+      → count ≡ most → AreNextDue zone entry from most minutes
   found_enough now end count most minutes has end_is all = record {
     end = now;
     within = omega (arith, has.early, end_is);

@@ -23,14 +23,14 @@ mod input_read;
 mod item;
 mod laws;
 mod lines;
+mod listing_lines;
 mod listing_program;
+mod listing_read;
 mod listing_words;
 mod next;
-mod next_session;
 mod program;
-mod read;
-mod say;
-mod sessions;
+mod session;
+mod session_loop;
 mod words;
 
 pub use cron_session::{CRON_QUEUE, CronEnd, CronReport, cron_session};

@@ -1,126 +1,83 @@
-//! The lines of entries and their minutes.
-ghost use Rattle.std.specs.Prelude.{◌≡◌, ◌≤◌, ◌+◌, ◌++◌, ◌==◌, All, IfOk, OnOk, length};
-ghost use Rattle.civil_minute.specs.Zone.{IsReadable};
-ghost use Rattle.host_calls.specs.ClockRange.{IsClockMinute};
-ghost use Rattle.host_calls.specs.declared.clock_seconds.TheConstants.{LAST_MINUTE};
-ghost use Rattle.cron_turn.specs.Listing.{AreMinuteLines, IsCronListing, ListsEntry, ShowsMinute, ShowsMinutes, dated_line};
-ghost use Rattle.cron_turn.specs.inside.AddedLines.{Adds};
+//! What is said of a session.
+ghost use Rattle.std.specs.Prelude.{◌≡◌, ◌≤◌, None};
+ghost use Rattle.tool_output.specs.Sinks.{sink_at};
+ghost use Rattle.cron_turn.specs.Items.{cron_end_line};
+ghost use Rattle.cron_turn.specs.inside.NextSession.{PutsLine, SaysSession, after_put, damage_in, is_done_session};
 
-use crate::next_due;
-use civil_minute::{Zone, civil_of};
-use cron_text::CronEntry;
-use host_calls::Bytes;
-use listing_text::date_text;
-use std::alloc::{AllocError, Global};
+use crate::item::cause_of_cron_end;
+use cron_session::CronEnd;
+use host_calls::{Damage, Sink, SinkFault};
+use listing_text::{Cause, cause_line};
+use std::alloc::Global;
 
-// What is in place of a date where the entry is due at no minute that was searched.
-const NEVER: &[u8] = b"not within nine years";
+// The name under which the program says its causes.
+pub(crate) const CRON_PROGRAM: &str = "atcron";
 
-// The lines of the entries, in order: the next minutes of each from this one on.
-pub(crate) fn crontab_listing(
-    alloc: Global,
-    entries: &[CronEntry],
-    zone: &Zone,
-    from: u32,
-    count: u32,
-) -> Result<Bytes, AllocError>
-    requires from { from ≤ LAST_MINUTE + 1 }
-    requires zone { IsReadable zone.now }
-    ensures { IfOk result (IsCronListing zone.now from count entries.now) }
+// Says how a session ended, unless it is damage. Answers the cause for which no further one is made, if there is one.
+pub(crate) fn say_cron_end<E: Sink>(alloc: Global, end: &CronEnd, err: &mut E) -> Option<Cause>
+    ensures made_as { (E.outlet err.new).made_as ≡ (E.outlet err.old).made_as }
+    ensures later { (E.outlet err.old).sink_faults ≤ (E.outlet err.new).sink_faults }
+    ensures says { SaysSession E.tells end.now
+        (sink_at (E.content err.old) (E.outlet err.old)) (sink_at (E.content err.new) (E.outlet err.new)) result }
 {
-    let mut text = Vec::new(alloc);
-    for entry in entries {
-        add_entry(alloc, &mut text, entry, zone, from, count)?;
+    match damage_in(end) {
+        Some(damage) => Some(Cause::Damaged(damage)),
+        None => say_line(alloc, end, err),
     }
-    Ok(Bytes::from(text))
 }
 
-// Adds the lines of an entry.
-fn add_entry(
-    alloc: Global,
-    text: &mut Vec<u8>,
-    entry: &CronEntry,
-    zone: &Zone,
-    from: u32,
-    count: u32,
-) -> Result<(), AllocError>
-    requires from { from ≤ LAST_MINUTE + 1 }
-    requires zone { IsReadable zone.now }
-    ensures { OnOk result (Adds (ListsEntry zone.now from count entry.now) text.old.items text.new.items) }
+// The damage that the session found, if it found one.
+fn damage_in(end: &CronEnd) -> Option<Damage>
+    ensures { result ≡ damage_in end.now }
 {
-    let minutes = next_due(alloc, entry, zone, from, count)?;
-    add_found(alloc, text, &minutes, zone, entry.command.as_slice())?;
-    Ok(())
-}
-
-// Adds the lines of the minutes that were found, or the line that there is none.
-fn add_found(
-    alloc: Global,
-    text: &mut Vec<u8>,
-    minutes: &[u32],
-    zone: &Zone,
-    command: &[u8],
-) -> Result<(), AllocError>
-    requires minutes { All IsClockMinute minutes.now }
-    requires zone { IsReadable zone.now }
-    ensures { OnOk result (Adds (ShowsMinutes zone.now command.now minutes.now) text.old.items text.new.items) }
-{
-    if is_none(minutes) {
-        add_minute_line(text, NEVER, command)?;
-        return Ok(());
+    match end {
+        CronEnd::Damaged(damage) => Some(*damage),
+        _ => None,
     }
-    add_minutes(alloc, text, minutes, zone, command)?;
-    Ok(())
 }
 
-fn is_none(minutes: &[u32]) -> bool
-    ensures { result ≡ (length minutes.now == 0) }
+// Says how a session ended that found no damage. Of one that was done nothing is put, so that a sink that fails is not
+// requested nothing.
+fn say_line<E: Sink>(alloc: Global, end: &CronEnd, err: &mut E) -> Option<Cause>
+    requires { damage_in end.now ≡ None }
+    ensures made_as { (E.outlet err.new).made_as ≡ (E.outlet err.old).made_as }
+    ensures later { (E.outlet err.old).sink_faults ≤ (E.outlet err.new).sink_faults }
+    ensures says { SaysSession E.tells end.now
+        (sink_at (E.content err.old) (E.outlet err.old)) (sink_at (E.content err.new) (E.outlet err.new)) result }
 {
-    minutes.is_empty()
-}
-
-// Adds a line for each of the minutes.
-fn add_minutes(
-    alloc: Global,
-    text: &mut Vec<u8>,
-    minutes: &[u32],
-    zone: &Zone,
-    command: &[u8],
-) -> Result<(), AllocError>
-    requires minutes { All IsClockMinute minutes.now }
-    requires zone { IsReadable zone.now }
-    ensures { OnOk result (Adds (AreMinuteLines zone.now command.now minutes.now) text.old.items text.new.items) }
-{
-    for minute in minutes {
-        add_minute(alloc, text, *minute, zone, command)?;
+    if is_done_session(end) {
+        return None;
     }
-    Ok(())
+    let put = put_end_line(alloc, end, err);
+    after_put(end, put)
 }
 
-// Adds the line of a minute.
-fn add_minute(
-    alloc: Global,
-    text: &mut Vec<u8>,
-    minute: u32,
-    zone: &Zone,
-    command: &[u8],
-) -> Result<(), AllocError>
-    requires minute { IsClockMinute minute }
-    requires zone { IsReadable zone.now }
-    ensures { OnOk result (Adds (ShowsMinute zone.now command.now minute) text.old.items text.new.items) }
+fn is_done_session(end: &CronEnd) -> bool
+    ensures { result ≡ is_done_session end.now }
 {
-    let civil = civil_of(alloc, minute, zone)?;
-    add_minute_line(text, &date_text(&civil), command)?;
-    Ok(())
+    matches!(end, CronEnd::Done)
 }
 
-// Adds a line: when it is, and the command.
-fn add_minute_line(text: &mut Vec<u8>, when: &[u8], command: &[u8]) -> Result<(), AllocError>
-    ensures { OnOk result (text.new.items ≡ text.old.items ++ dated_line when.now command.now) }
+// Puts the line of a session's end.
+fn put_end_line<E: Sink>(alloc: Global, end: &CronEnd, err: &mut E) -> Result<(), SinkFault>
+    ensures made_as { (E.outlet err.new).made_as ≡ (E.outlet err.old).made_as }
+    ensures puts { PutsLine E.tells (cron_end_line end.now)
+        (sink_at (E.content err.old) (E.outlet err.old)) (sink_at (E.content err.new) (E.outlet err.new)) result }
 {
-    text.extend_from_slice(when)?;
-    text.push(b'\t')?;
-    text.extend_from_slice(command)?;
-    text.push(b'\n')?;
-    Ok(())
+    let line = cause_line(alloc, CRON_PROGRAM, &cause_of_cron_end(end))?;
+    err.put(alloc, line.as_slice())
+}
+
+// Why no further session is made, by what came of the line of one. The line of an out-of-memory error may be missing.
+fn after_put(end: &CronEnd, put: Result<(), SinkFault>) -> Option<Cause>
+    ensures { result ≡ after_put end.now put }
+{
+    match put {
+        Ok(()) => None,
+        Err(SinkFault::Failed) => Some(Cause::OutputFault),
+        Err(SinkFault::Memory) => match end {
+            CronEnd::Memory => None,
+            _ => Some(Cause::Memory),
+        },
+    }
 }

@@ -5,8 +5,8 @@ ghost use Rattle.listing_text.specs.Cause.{status_of};
 ghost use Rattle.cron_turn.specs.ListingRun.{IsListed, ListsOrLacksMemory, NextRuns, PutsListing, listing_at, listing_telling};
 ghost use Rattle.cron_turn.specs.ListingWords.{next_asked};
 
+use crate::listing_read::read_listing;
 use crate::listing_words::{NextRequest, listing_request};
-use crate::read::read_listing;
 use civil_minute::{Zone, is_unreadable};
 use host_calls::{Inputs, Readings, Sink};
 use listing_text::{Cause, Refusal, Status};

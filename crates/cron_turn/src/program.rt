@@ -6,8 +6,8 @@ ghost use Rattle.cron_turn.specs.Outside.{StaysSo, run_at, cron_telling};
 ghost use Rattle.cron_turn.specs.CronRuns.{RunsOrLacksMemory, CronRuns, HasRisenInTurns, caller_refused, refused_zone};
 ghost use Rattle.cron_turn.specs.Words.{cron_asked};
 
-use crate::say::CRON_PROGRAM;
-use crate::sessions::make_cron_sessions;
+use crate::lines::CRON_PROGRAM;
+use crate::session_loop::make_cron_sessions;
 use crate::words::cron_request;
 use civil_minute::Zone;
 use host_calls::{Host, Inputs, Readings, Sink};

@@ -40,7 +40,8 @@ none_asked tells kids world = record {
   counted = refl;
   ended = sym (ends_of_none kids);
   asked = λ _ kept table current.
-      subst (λ (asked : List Asked). AreMade table [] [] asked kept world world) (sym (questions_of_none kids)) (no_steps_are_made table kept world current);
+      subst (λ (asked : List Asked). AreMade table [] [] asked kept world world) (sym (questions_of_none kids))
+      (no_steps_are_made table kept world current);
 }
 
 -- one answer more
@@ -65,17 +66,21 @@ questions_of_next (first ∷ kids) (one ∷ answers) kid answer below at =
     ap (λ (l : List Asked). record { child = first.child; answer = one } ∷ l) (questions_of_next kids answers kid answer (omega arith) at)
 
 -- an item of a list is the same by any default
-same_default : {X : Type 0} (items : List X) (count : ℕ) (one other : X) → count < length items → get_or items count one ≡ get_or items count other
+same_default : {X : Type 0} (items : List X) (count : ℕ) (one other : X) → count < length items
+    → get_or items count one ≡ get_or items count other
 same_default [] count one other below = absurd (omega arith)
 same_default (first ∷ items) zero one other below = refl
 same_default (first ∷ items) (suc count) one other below = same_default items count one other (omega arith)
 
-pub at_place : {X : Type 0} (items : List X) (count : ℕ) (default : X) → count < length items → get_or items count default ≡ get_or items count (get_or items count default)
+pub at_place : {X : Type 0} (items : List X) (count : ℕ) (default : X) → count < length items
+    → get_or items count default ≡ get_or items count (get_or items count default)
 at_place items count default below = same_default items count default (get_or items count default) below
 
-pub one_asked : (tells : Bool) (kids : List Kid) (count : ℕ) (known last : List TurnStep) (old middle new : World) (default : Kid) (answer : Option Ending) →
+pub one_asked : (tells : Bool) (kids : List Kid) (count : ℕ) (known last : List TurnStep) (old middle new : World) (default : Kid)
+    (answer : Option Ending) →
     count < length kids → HasAsked tells kids count known old middle →
-    last ≡ known ++ end_of (get_or kids count default).number answer → (tells ≡ true → Asks (get_or kids count default).child middle new (Ok answer)) →
+    last ≡ known ++ end_of (get_or kids count default).number answer
+    → (tells ≡ true → Asks (get_or kids count default).child middle new (Ok answer)) →
     HasAsked tells kids (count + 1) last old new
 one_asked tells kids count known last old middle new default answer below has written asks =
     let kid : Kid = get_or kids count default in
@@ -88,12 +93,15 @@ one_asked tells kids count known last old middle new default answer below has wr
       ended = written ∙ ap (λ (l : List TurnStep). l ++ end_of kid.number answer) has.ended
           ∙ sym (ends_of_next kids has.answers kid answer below_now at_now);
       asked = λ is kept table current.
-          subst (λ (asked : List Asked). AreMade table [] [] asked kept old new) (sym (questions_of_next kids has.answers kid answer below_now at_now))
-          (question_after table [] [] (questions kids has.answers) kept old middle new (has.asked is kept table current) kid.child answer (asks is));
+          subst (λ (asked : List Asked). AreMade table [] [] asked kept old new)
+          (sym (questions_of_next kids has.answers kid answer below_now at_now))
+          (question_after table [] [] (questions kids has.answers) kept old middle new (has.asked is kept table current)
+          kid.child answer (asks is));
     }
 
 -- all children have answered
-pub all_asked : {E : Type 0} (tells : Bool) (kids : List Kid) (count : ℕ) (known : Vec TurnStep Global) (old new : World) → count ≡ length kids →
+pub all_asked : {E : Type 0} (tells : Bool) (kids : List Kid) (count : ℕ) (known : Vec TurnStep Global) (old new : World)
+    → count ≡ length kids →
     HasAsked tells kids count known.items old new → AsksAll {E = E} tells kids old new (Ok known)
 all_asked tells kids count known old new whole has = record {
   answers = has.answers;
@@ -103,7 +111,8 @@ all_asked tells kids count known old new whole has = record {
 }
 
 -- the next one could not be asked, or its answer not be written down
-pub some_asked : {E : Type 0} (tells : Bool) (kids : List Kid) (count : ℕ) (known : List TurnStep) (old middle new : World) (fault : E) (result : Result (Vec TurnStep Global) E) →
+pub some_asked : {E : Type 0} (tells : Bool) (kids : List Kid) (count : ℕ) (known : List TurnStep) (old middle new : World) (fault : E)
+    (result : Result (Vec TurnStep Global) E) →
     IsErrAnd result (λ other. other ≡ fault) →
     count ≤ length kids → HasAsked tells kids count known old middle → (tells ≡ true → new ≡ middle) →
     AsksAll {E = E} tells kids old new result
@@ -117,7 +126,9 @@ some_asked tells kids count known old middle new fault (Err other) is below has 
 }
 
 -- the child of the next child is one of the host's
-pub child_held : (was now : List Child) (kids : List Kid) (count : ℕ) (default : Kid) → AreChildren was kids → now ≡ was → count < length kids →
+pub child_held : (was now : List Child) (kids : List Kid) (count : ℕ) (default : Kid) → AreChildren was kids
+    → now ≡ was → count < length kids →
     Contains now (get_or kids count default).child
 child_held was now kids count default are same below =
-    subst (λ (children : List Child). Contains children (get_or kids count default).child) (sym same) (are.each (get_or kids count default) (Contains-get_or kids count default below))
+    subst (λ (children : List Child). Contains children (get_or kids count default).child) (sym same)
+    (are.each (get_or kids count default) (Contains-get_or kids count default below))

@@ -8,7 +8,8 @@ use Rattle.daemon_turn.specs.Decisions.{end_steps}
 use Rattle.daemon_turn.specs.StartOrder.{steps_of_starts}
 
 -- a start that failed is ended, and the job after it is started
-failed_start : steps_of_starts (1 ∷ 2 ∷ []) (pos 1735689600) (false ∷ true ∷ []) ≡ HandedOver 1 (pos 1735689600) ∷ Ended 1 NotStarted ∷ HandedOver 2 (pos 1735689600) ∷ []
+failed_start : steps_of_starts (1 ∷ 2 ∷ []) (pos 1735689600) (false ∷ true ∷ [])
+    ≡ HandedOver 1 (pos 1735689600) ∷ Ended 1 NotStarted ∷ HandedOver 2 (pos 1735689600) ∷ []
 failed_start = refl
 
 -- where no start has answered yet, the next one may have taken effect, and none after it
@@ -16,7 +17,8 @@ first_start : steps_of_starts (1 ∷ 2 ∷ []) (pos 1735689600) [] ≡ HandedOve
 first_start = refl
 
 -- each end is that of the child that reported it
-second_kid : end_steps (record { number = 1; child = record { id = 0 } } ∷ record { number = 4; child = record { id = 1 } } ∷ []) (None ∷ Some (Exit 3) ∷ []) ≡ Ended 4 (Exit 3) ∷ []
+second_kid : end_steps (record { number = 1; child = record { id = 0 } } ∷ record { number = 4; child = record { id = 1 } } ∷ [])
+    (None ∷ Some (Exit 3) ∷ []) ≡ Ended 4 (Exit 3) ∷ []
 second_kid = refl
 
 -- in a batch queue: none at the limit, one below it, none before the interval is over, one then, none without a load

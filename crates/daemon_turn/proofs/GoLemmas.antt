@@ -31,7 +31,8 @@ use Rattle.daemon_turn.proofs.HandLemmas.{no_fault, not_memory}
 abbrev pub no_part : TurnPart
 no_part = record { steps = []; next = []; questions = []; flags = []; added = [] }
 
-pub goes_none : (tells : Bool) (session : Session) (world : World) (kept : Kept) → IsInside session → MakesPart tells session session world world kept no_part (Ok kept)
+pub goes_none : (tells : Bool) (session : Session) (world : World) (kept : Kept) → IsInside session
+    → MakesPart tells session session world world kept no_part (Ok kept)
 goes_none tells session world kept inside = record {
   inside = inside;
   counts = no_counts session;
@@ -47,31 +48,44 @@ goes_none tells session world kept inside = record {
 pub steps_join : (first later : List TurnStep) → steps_of_turn (first ++ later) ≡ steps_of_turn first ++ steps_of_turn later
 steps_join first later = map-append step_of first later
 
-pub after_join : (table : JobTable) (first later : List TurnStep) → after_steps table (steps_of_turn (first ++ later)) ≡ after_steps (after_steps table (steps_of_turn first)) (steps_of_turn later)
-after_join table first later = ap (after_steps table) (steps_join first later) ∙ steps_then table (steps_of_turn first) (steps_of_turn later)
+pub after_join : (table : JobTable) (first later : List TurnStep)
+    → after_steps table (steps_of_turn (first ++ later)) ≡ after_steps (after_steps table (steps_of_turn first)) (steps_of_turn later)
+after_join table first later = ap (after_steps table) (steps_join first later)
+    ∙ steps_then table (steps_of_turn first) (steps_of_turn later)
 
 started_join : (given more : List Handed) → started_numbers (given ++ more) ≡ started_numbers given ++ started_numbers more
 started_join given more =
     ap (map (λ (handed : Handed). handed.number)) (filter-append (λ (handed : Handed). handed.started) given more)
-    ∙ map-append (λ (handed : Handed). handed.number) (filter (λ (handed : Handed). handed.started) given) (filter (λ (handed : Handed). handed.started) more)
+    ∙ map-append (λ (handed : Handed). handed.number) (filter (λ (handed : Handed). handed.started) given)
+    (filter (λ (handed : Handed). handed.started) more)
 
-table_then : (kept middle : Kept) (first later : List TurnStep) (result : Result Kept StoreFault) → middle.table ≡ after_steps kept.table (steps_of_turn first) →
-    IfOk result (λ store. store.table ≡ after_steps middle.table (steps_of_turn later)) → IfOk result (λ store. store.table ≡ after_steps kept.table (steps_of_turn (first ++ later)))
-table_then kept middle first later (Ok store) before beyond = beyond ∙ ap (λ (table : JobTable). after_steps table (steps_of_turn later)) before ∙ sym (after_join kept.table first later)
+table_then : (kept middle : Kept) (first later : List TurnStep) (result : Result Kept StoreFault)
+    → middle.table ≡ after_steps kept.table (steps_of_turn first) →
+    IfOk result (λ store. store.table ≡ after_steps middle.table (steps_of_turn later))
+    → IfOk result (λ store. store.table ≡ after_steps kept.table (steps_of_turn (first ++ later)))
+table_then kept middle first later (Ok store) before beyond = beyond
+    ∙ ap (λ (table : JobTable). after_steps table (steps_of_turn later)) before ∙ sym (after_join kept.table first later)
 table_then kept middle first later (Err fault) before beyond = tt
 
-ends_then : (table : JobTable) (first later : TurnPart) (given more : List Handed) (middle : Kept) (start between end : World) (result : Result Kept StoreFault) →
-    TurnPartEnds table first given start between (Ok middle) → TurnPartEnds (after_steps table (steps_of_turn first.steps)) later more between end result →
+ends_then : (table : JobTable) (first later : TurnPart) (given more : List Handed) (middle : Kept) (start between end : World)
+    (result : Result Kept StoreFault) →
+    TurnPartEnds table first given start between (Ok middle)
+    → TurnPartEnds (after_steps table (steps_of_turn first.steps)) later more between end result →
     TurnPartEnds table (joined_parts first later) (given ++ more) start end result
 ends_then table first later given more middle start between end (Ok kept) before beyond =
-    subst (λ (steps : List Step). AreMade table steps (given ++ more) (first.questions ++ later.questions) kept start end) (sym (steps_join first.steps later.steps))
-    (steps_are_made_after table (steps_of_turn first.steps) (steps_of_turn later.steps) given more first.questions later.questions middle kept start between end before beyond)
+    subst (λ (steps : List Step). AreMade table steps (given ++ more) (first.questions ++ later.questions) kept start end)
+    (sym (steps_join first.steps later.steps))
+    (steps_are_made_after table (steps_of_turn first.steps) (steps_of_turn later.steps) given more first.questions later.questions middle
+    kept start between end before beyond)
 ends_then table first later given more middle start between end (Err fault) before beyond =
-    subst (λ (steps : List Step). AreStopped table steps (steps_of_turn later.next) (given ++ more) (first.questions ++ later.questions) start end) (sym (steps_join first.steps later.steps))
-    (steps_are_stopped_after table (steps_of_turn first.steps) (steps_of_turn later.steps) (steps_of_turn later.next) given more first.questions later.questions middle start between end before beyond)
+    subst (λ (steps : List Step). AreStopped table steps (steps_of_turn later.next) (given ++ more) (first.questions ++ later.questions)
+    start end) (sym (steps_join first.steps later.steps))
+    (steps_are_stopped_after table (steps_of_turn first.steps) (steps_of_turn later.steps) (steps_of_turn later.next) given more
+    first.questions later.questions middle start between end before beyond)
 
 -- one part after another, which was made
-pub goes_then : (tells : Bool) (before between after : Session) (start middle end : World) (kept now : Kept) (first later : TurnPart) (result : Result Kept StoreFault) →
+pub goes_then : (tells : Bool) (before between after : Session) (start middle end : World) (kept now : Kept) (first later : TurnPart)
+    (result : Result Kept StoreFault) →
     MakesPart tells before between start middle kept first (Ok now) → MakesPart tells between after middle end now later result →
     MakesPart tells before after start end kept (joined_parts first later) result
 goes_then tells before between after start middle end kept now first later result one other = record {
@@ -90,10 +104,12 @@ goes_then tells before between after start middle end kept now first later resul
   files = λ known table current.
       let was : StartsPart table first start middle (Ok now) = one.files known table current in
       let made : AreMade table (steps_of_turn first.steps) was.given first.questions now start middle = was.ends in
-      let is : StartsPart (after_steps table (steps_of_turn first.steps)) later middle end result = other.files known (after_steps table (steps_of_turn first.steps)) made.current in
+      let is : StartsPart (after_steps table (steps_of_turn first.steps)) later middle end result =
+      other.files known (after_steps table (steps_of_turn first.steps)) made.current in
       record {
         given = was.given ++ is.given;
-        flagged = map-append (λ (handed : Handed). handed.started) was.given is.given ∙ ap (λ (l : List Bool). l ++ flags_of is.given) was.flagged ∙ ap (λ (l : List Bool). first.flags ++ l) is.flagged;
+        flagged = map-append (λ (handed : Handed). handed.started) was.given is.given
+            ∙ ap (λ (l : List Bool). l ++ flags_of is.given) was.flagged ∙ ap (λ (l : List Bool). first.flags ++ l) is.flagged;
         numbered = started_join was.given is.given ∙ ap (λ (l : List ℕ). l ++ started_numbers is.given) was.numbered
             ∙ ap (λ (l : List ℕ). map (λ (kid : Kid). kid.number) first.added ++ l) is.numbered
             ∙ sym (map-append (λ (kid : Kid). kid.number) first.added later.added);
@@ -121,7 +137,8 @@ asks_go tells before after old new kept questions stays asked = record {
 }
 
 -- where memory runs out
-pub memory_goes : (tells : Bool) (before after : Session) (old new : World) (kept : Kept) (questions : List Asked) → StaysInside before after →
+pub memory_goes : (tells : Bool) (before after : Session) (old new : World) (kept : Kept) (questions : List Asked)
+    → StaysInside before after →
     (tells ≡ true → (now : Kept) (table : JobTable) → IsCurrent now old.now.directory table → AreMade table [] [] questions now old new) →
     MakesPart tells before after old new kept (asked_part questions) (Err Memory)
 memory_goes tells before after old new kept questions stays asked = record {
@@ -153,7 +170,13 @@ kid_of number (Some child) = record { number = number; child = child } ∷ []
 
 abbrev pub handed_part : ℕ → ℤ → Result (Kept × Option Child) StoreFault → TurnPart
 handed_part number second (Ok started) =
-    record { steps = HandedOver number second ∷ []; next = []; questions = []; flags = is_some started.1 ∷ []; added = kid_of number started.1 }
+    record {
+      steps = HandedOver number second ∷ [];
+      next = [];
+      questions = [];
+      flags = is_some started.1 ∷ [];
+      added = kid_of number started.1;
+    }
 handed_part number second (Err fault) = record { steps = []; next = HandedOver number second ∷ []; questions = []; flags = []; added = [] }
 
 child_of : (number : ℕ) (child : Option Child) → option_to_list child ≡ map (λ (kid : Kid). kid.child) (kid_of number child)
@@ -174,8 +197,10 @@ number_kept number (Some child) handed same flag = by_flag handed.started flag w
 first_flag : (handed : Handed) (flag : Bool) → flags_of (handed ∷ []) ≡ flag ∷ [] → handed.started ≡ flag
 first_flag handed flag is = cc
 
-pub hands_go : (tells : Bool) (before after : Session) (old new : World) (kept : Kept) (number : ℕ) (second : ℤ) (result : Result (Kept × Option Child) StoreFault) →
-    HandsJobOver tells before after old new kept number second result → MakesPart tells before after old new kept (handed_part number second result) (kept_by result)
+pub hands_go : (tells : Bool) (before after : Session) (old new : World) (kept : Kept) (number : ℕ) (second : ℤ)
+    (result : Result (Kept × Option Child) StoreFault) →
+    HandsJobOver tells before after old new kept number second result
+    → MakesPart tells before after old new kept (handed_part number second result) (kept_by result)
 hands_go tells before after old new kept number second (Ok started) hands = record {
   inside = hands.inside;
   counts = hands.counts;

@@ -26,7 +26,8 @@ filter_both : {X : Type 0} (one other : X → Bool) (xs : List X) → filter (λ
 filter_both one other [] = refl
 filter_both {X} one other (x ∷ xs) = by_test (one x) (filter_both one other xs) where
   by_test : (b : Bool) → filter (λ y. one y && other y) xs ≡ filter other (filter one xs) →
-      cond (b && other x) (x ∷ filter (λ y. one y && other y) xs) (filter (λ y. one y && other y) xs) ≡ filter other (cond b (x ∷ filter one xs) (filter one xs))
+      cond (b && other x) (x ∷ filter (λ y. one y && other y) xs) (filter (λ y. one y && other y) xs)
+      ≡ filter other (cond b (x ∷ filter one xs) (filter one xs))
   by_test true same = ap (λ (l : List X). cond (other x) (x ∷ l) l) same
   by_test false same = same
 
@@ -38,21 +39,25 @@ end_number number (Interrupted other) is = cc
 end_number number (Forgotten other) is = cc
 
 -- steps of other jobs report no end
-pub no_end_of : (number : ℕ) (steps : List TurnStep) → (Has (map number_of_step steps) number → ⊥) → list_any (tells_end_of number) steps ≡ false
+pub no_end_of : (number : ℕ) (steps : List TurnStep) → (Has (map number_of_step steps) number → ⊥)
+    → list_any (tells_end_of number) steps ≡ false
 no_end_of number steps none = by_test (list_any (tells_end_of number) steps) refl where
   by_test : (b : Bool) → list_any (tells_end_of number) steps ≡ b → b ≡ false
   by_test false is = refl
   by_test true is =
       let found : (step : TurnStep) × Has steps step × (tells_end_of number step ≡ true) = one_passes (tells_end_of number) steps is in
-      absurd (none (subst (Has (map number_of_step steps)) (end_number number found.0 found.2) (has_made number_of_step steps found.0 found.1)))
+      absurd
+      (none (subst (Has (map number_of_step steps)) (end_number number found.0 found.2) (has_made number_of_step steps found.0 found.1)))
 
 -- the children that stay, by the ends among the first steps, where the others are of no running job
 pub kids_stay : (table : JobTable) (first others : List TurnStep) (kids : List Kid) →
     ((kid : Kid) → runs_in table kid ≡ true → list_any (tells_end_of kid.number) others ≡ false) →
     without_ended first (asked_kids table kids) ≡ kept_kids table (first ++ others) kids
 kids_stay table first others kids none =
-    filter_alike (λ (kid : Kid). not (list_any (tells_end_of kid.number) first)) (λ (kid : Kid). not (list_any (tells_end_of kid.number) (first ++ others))) (asked_kids table kids)
-    (λ kid has. ap not (or_false (list_any (tells_end_of kid.number) first) (list_any (tells_end_of kid.number) others) (none kid (filtered_has (runs_in table) kids kid has).1)
+    filter_alike (λ (kid : Kid). not (list_any (tells_end_of kid.number) first))
+    (λ (kid : Kid). not (list_any (tells_end_of kid.number) (first ++ others))) (asked_kids table kids)
+    (λ kid has. ap not (or_false (list_any (tells_end_of kid.number) first) (list_any (tells_end_of kid.number) others)
+    (none kid (filtered_has (runs_in table) kids kid has).1)
     ∙ sym (list_any-append (tells_end_of kid.number) first others)))
     ∙ sym (filter_both (runs_in table) (λ (kid : Kid). not (list_any (tells_end_of kid.number) (first ++ others))) kids) where
       or_false : (a b : Bool) → b ≡ false → a ≡ (a || b)
@@ -60,7 +65,8 @@ kids_stay table first others kids none =
       or_false false b is = sym is
 
 -- a test that implies another finds alike among what passes the other
-any_kept : {X : Type 0} (one other : X → Bool) (xs : List X) → ((x : X) → Has xs x → one x ≡ true → other x ≡ true) → list_any one (filter other xs) ≡ list_any one xs
+any_kept : {X : Type 0} (one other : X → Bool) (xs : List X) → ((x : X) → Has xs x → one x ≡ true → other x ≡ true)
+    → list_any one (filter other xs) ≡ list_any one xs
 any_kept one other [] implies = refl
 any_kept {X} one other (x ∷ xs) implies = by_tests (one x) (other x) refl refl (any_kept one other xs (λ y has. implies y (inr has))) where
   by_tests : (a b : Bool) → one x ≡ a → other x ≡ b → list_any one (filter other xs) ≡ list_any one xs →
@@ -74,15 +80,19 @@ any_kept {X} one other (x ∷ xs) implies = by_tests (one x) (other x) refl refl
 pub interrupts_asked : (table : JobTable) (kids : List Kid) → interrupts table (asked_kids table kids) ≡ interrupts table kids
 interrupts_asked table kids =
     ap (map (λ (row : Row). Interrupted row.number))
-    (filter_alike (is_job_without_kid (asked_kids table kids)) (is_job_without_kid kids) (live_rows table) (λ row has. by_state (is_running row.state) row has refl)) where
-      running_kid : (row : Row) → Has (live_rows table) row → is_running row.state ≡ true → (kid : Kid) → Has kids kid → (kid.number == row.number) ≡ true → runs_in table kid ≡ true
+    (filter_alike (is_job_without_kid (asked_kids table kids)) (is_job_without_kid kids) (live_rows table)
+    (λ row has. by_state (is_running row.state) row has refl)) where
+      running_kid : (row : Row) → Has (live_rows table) row → is_running row.state ≡ true → (kid : Kid) → Has kids kid
+          → (kid.number == row.number) ≡ true → runs_in table kid ≡ true
       running_kid row has is kid there same =
           let held : (job : Job) × (entry_at table row.number ≡ Some (Live job row.state)) = row_held table row has in
           ap (λ (n : ℕ). is_running_entry (entry_at table n)) (eqb-true kid.number row.number same) ∙ ap is_running_entry held.1 ∙ is
 
-      by_state : (b : Bool) (row : Row) → Has (live_rows table) row → is_running row.state ≡ b → is_job_without_kid (asked_kids table kids) row ≡ is_job_without_kid kids row
+      by_state : (b : Bool) (row : Row) → Has (live_rows table) row → is_running row.state ≡ b
+          → is_job_without_kid (asked_kids table kids) row ≡ is_job_without_kid kids row
       by_state true row has is =
-          ap (λ found. is_running row.state && not found) (any_kept (λ (kid : Kid). kid.number == row.number) (runs_in table) kids (running_kid row has is))
+          ap (λ found. is_running row.state && not found)
+          (any_kept (λ (kid : Kid). kid.number == row.number) (runs_in table) kids (running_kid row has is))
       by_state false row has is =
           ap (λ v. v && not (has_kid (asked_kids table kids) row.number)) is ∙ sym (ap (λ v. v && not (has_kid kids row.number)) is)
 
@@ -97,5 +107,6 @@ started_has (first ∷ numbers) (false ∷ flags) number has = inr (started_has 
 pub started_apart : (numbers : List ℕ) (flags : List Bool) → Apart numbers → Apart (started_of numbers flags)
 started_apart [] flags apart = tt
 started_apart (first ∷ numbers) [] apart = tt
-started_apart (first ∷ numbers) (true ∷ flags) apart = (λ has. apart.0 (started_has numbers flags first has), started_apart numbers flags apart.1)
+started_apart (first ∷ numbers) (true ∷ flags) apart =
+    (λ has. apart.0 (started_has numbers flags first has), started_apart numbers flags apart.1)
 started_apart (first ∷ numbers) (false ∷ flags) apart = started_apart numbers flags apart.1

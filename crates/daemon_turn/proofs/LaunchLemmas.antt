@@ -36,12 +36,15 @@ use Rattle.daemon_turn.proofs.WaitLemmas.{waiting_after}
 -- One start.
 
 -- the job runs once its start took effect
-pub started_runs : (table after : JobTable) (number : ℕ) (second : ℤ) → IsLegal table (Start number second) → after ≡ after_step table (Start number second) → IsRunning after number
+pub started_runs : (table after : JobTable) (number : ℕ) (second : ℤ) → IsLegal table (Start number second)
+    → after ≡ after_step table (Start number second) → IsRunning after number
 started_runs table after number second legal is =
     (legal.0, second, started_entry table after number second legal is)
 
-pub may_end : (tells : Bool) (before between : Session) (old middle : World) (kept store : Kept) (number : ℕ) (second : ℤ) → IsLegal kept.table (Start number second) →
-    (tells ≡ true → (table : JobTable) × IsCurrent kept old.now.directory table) → HandsJobOver tells before between old middle kept number second (Ok (store, None)) →
+pub may_end : (tells : Bool) (before between : Session) (old middle : World) (kept store : Kept) (number : ℕ) (second : ℤ)
+    → IsLegal kept.table (Start number second) →
+    (tells ≡ true → (table : JobTable) × IsCurrent kept old.now.directory table)
+    → HandsJobOver tells before between old middle kept number second (Ok (store, None)) →
     MayMakeSteps tells between middle store (steps_of_turn (Ended number NotStarted ∷ []))
 may_end tells before between old middle kept store number second legal current hands = record {
   inside = hands.inside;
@@ -51,19 +54,24 @@ may_end tells before between old middle kept store number second legal current h
       (after_step first.0 (Start number second), (hands.files known first.0 first.1).made.current));
 }
 
-module _ (tells : Bool) (before between after : Session) (old middle new : World) (kept : Kept) (number : ℕ) (second : ℤ) (kids : List Kid) (was : List TurnStep) where
-  pub launched_not : (fault : StoreFault) (more : List Kid) (is : List TurnStep) (result : Result Kept StoreFault) → IsErrAnd result (λ other. other ≡ fault) → more ≡ kids → is ≡ was →
-      HandsJobOver tells before between old middle kept number second (Err fault) → Launches tells before between old middle kept (number ∷ []) second kids more was is result
+module _ (tells : Bool) (before between after : Session) (old middle new : World) (kept : Kept) (number : ℕ) (second : ℤ) (kids : List Kid)
+    (was : List TurnStep) where
+  pub launched_not : (fault : StoreFault) (more : List Kid) (is : List TurnStep) (result : Result Kept StoreFault)
+      → IsErrAnd result (λ other. other ≡ fault) → more ≡ kids → is ≡ was →
+      HandsJobOver tells before between old middle kept number second (Err fault)
+      → Launches tells before between old middle kept (number ∷ []) second kids more was is result
   launched_not fault more is (Ok store) err same written hands = absurd err
-  launched_not fault more is (Err other) err same written hands = subst (λ (of : StoreFault). Launches tells before between old middle kept (number ∷ []) second kids more was is (Err of)) (sym err) (record {
-    part = handed_part number second (Err fault);
-    goes = hands_go tells before between old middle kept number second (Err fault) hands;
-    started = record { few = omega arith; prefix = ([], refl); all = tt; numbered = refl; asked = refl };
-    written = written ∙ sym (append-nil was);
-    kids_are = same ∙ sym (append-nil kids);
-  })
+  launched_not fault more is (Err other) err same written hands = subst (λ (of : StoreFault).
+      Launches tells before between old middle kept (number ∷ []) second kids more was is (Err of)) (sym err) (record {
+        part = handed_part number second (Err fault);
+        goes = hands_go tells before between old middle kept number second (Err fault) hands;
+        started = record { few = omega arith; prefix = ([], refl); all = tt; numbered = refl; asked = refl };
+        written = written ∙ sym (append-nil was);
+        kids_are = same ∙ sym (append-nil kids);
+      })
 
-  pub launched : (store : Kept) (child : Child) (more : List Kid) (is : List TurnStep) → HandsJobOver tells before between old middle kept number second (Ok (store, Some child)) →
+  pub launched : (store : Kept) (child : Child) (more : List Kid) (is : List TurnStep)
+      → HandsJobOver tells before between old middle kept number second (Ok (store, Some child)) →
       is ≡ was ++ HandedOver number second ∷ [] → more ≡ kids ++ record { number = number; child = child } ∷ [] →
       Launches tells before between old middle kept (number ∷ []) second kids more was is (Ok store)
   launched store child more is hands written kids_are = record {
@@ -78,12 +86,15 @@ module _ (tells : Bool) (before between after : Session) (old middle new : World
   abbrev ended : List TurnStep
   ended = Ended number NotStarted ∷ []
 
-  pub launched_none : (store : Kept) (more : List Kid) (written is : List TurnStep) (result : Result Kept StoreFault) → HandsJobOver tells before between old middle kept number second (Ok (store, None)) →
-      more ≡ kids → written ≡ was ++ HandedOver number second ∷ [] → MakesAll tells between after middle new store (Ended number NotStarted ∷ []) written is result →
+  pub launched_none : (store : Kept) (more : List Kid) (written is : List TurnStep) (result : Result Kept StoreFault)
+      → HandsJobOver tells before between old middle kept number second (Ok (store, None)) →
+      more ≡ kids → written ≡ was ++ HandedOver number second ∷ []
+      → MakesAll tells between after middle new store (Ended number NotStarted ∷ []) written is result →
       Launches tells before after old new kept (number ∷ []) second kids more was is result
   launched_none store more written is result hands same first makes = record {
     part = joined_parts (handed_part number second (Ok (store, None))) (quiet_part makes.made makes.next);
-    goes = goes_then tells before between after old middle new kept store (handed_part number second (Ok (store, None))) (quiet_part makes.made makes.next) result
+    goes = goes_then tells before between after old middle new kept store (handed_part number second (Ok (store, None)))
+        (quiet_part makes.made makes.next) result
         (hands_go tells before between old middle kept number second (Ok (store, None)) hands)
         makes.goes;
     started = record {
@@ -93,28 +104,35 @@ module _ (tells : Bool) (before between after : Session) (old middle new : World
       numbered = refl;
       asked = refl;
     };
-    written = makes.written ∙ ap (λ (l : List TurnStep). l ++ makes.made) first ∙ append_assoc was (HandedOver number second ∷ []) makes.made;
+    written = makes.written ∙ ap (λ (l : List TurnStep). l ++ makes.made) first
+        ∙ append_assoc was (HandedOver number second ∷ []) makes.made;
     kids_are = same ∙ sym (append-nil kids);
   } where
     all : (of : Result Kept StoreFault) → IfOk of (λ last. makes.made ≡ ended) →
-        IfOk of (λ last. (length (false ∷ []) ≡ length (number ∷ [])) × (HandedOver number second ∷ makes.made ≡ steps_of_starts (number ∷ []) second (false ∷ [])))
+        IfOk of (λ last. (length (false ∷ []) ≡ length (number ∷ []))
+        × (HandedOver number second ∷ makes.made ≡ steps_of_starts (number ∷ []) second (false ∷ [])))
     all (Ok last) same = (refl, ap (λ (l : List TurnStep). HandedOver number second ∷ l) same)
     all (Err fault) same = tt
 
 -- there was no memory to write the start down
-pub launched_nothing : (tells : Bool) (session : Session) (world : World) (kept : Kept) (numbers : List ℕ) (second : ℤ) (kids more : List Kid) (was is : List TurnStep) (result : Result Kept StoreFault) →
-    IsErrAnd result (λ other. other ≡ Memory) → IsInside session → more ≡ kids → is ≡ was → Launches tells session session world world kept numbers second kids more was is result
+pub launched_nothing : (tells : Bool) (session : Session) (world : World) (kept : Kept) (numbers : List ℕ) (second : ℤ)
+    (kids more : List Kid) (was is : List TurnStep) (result : Result Kept StoreFault) →
+    IsErrAnd result (λ other. other ≡ Memory) → IsInside session → more ≡ kids → is ≡ was
+    → Launches tells session session world world kept numbers second kids more was is result
 launched_nothing tells session world kept numbers second kids more was is (Ok store) err inside same written = absurd err
-launched_nothing tells session world kept numbers second kids more was is (Err other) err inside same written = subst (λ (of : StoreFault). Launches tells session session world world kept numbers second kids more was is (Err of)) (sym err) (record {
-  part = asked_part [];
-  goes = memory_goes tells session session world world kept [] (stays_inside session inside) (λ known now table current. no_steps_are_made table now world current);
-  started = record { few = omega arith; prefix = (steps_of_starts numbers second [], refl); all = tt; numbered = none numbers; asked = refl };
-  written = written ∙ sym (append-nil was);
-  kids_are = same ∙ sym (append-nil kids);
-}) where
-  none : (all : List ℕ) → [] ≡ started_of all []
-  none [] = refl
-  none (number ∷ all) = refl
+launched_nothing tells session world kept numbers second kids more was is (Err other) err inside same written = subst (λ (of : StoreFault).
+    Launches tells session session world world kept numbers second kids more was is (Err of)) (sym err) (record {
+      part = asked_part [];
+      goes = memory_goes tells session session world world kept [] (stays_inside session inside)
+          (λ known now table current. no_steps_are_made table now world current);
+      started =
+          record { few = omega arith; prefix = (steps_of_starts numbers second [], refl); all = tt; numbered = none numbers; asked = refl };
+      written = written ∙ sym (append-nil was);
+      kids_are = same ∙ sym (append-nil kids);
+    }) where
+      none : (all : List ℕ) → [] ≡ started_of all []
+      none [] = refl
+      none (number ∷ all) = refl
 
 -- The loop.
 
@@ -133,11 +151,13 @@ started_join : (first later : List ℕ) (flags more : List Bool) → length flag
 started_join [] later [] more same = refl
 started_join [] later (flag ∷ flags) more same = absurd (omega arith)
 started_join (number ∷ first) later [] more same = absurd (omega arith)
-started_join (number ∷ first) later (true ∷ flags) more same = ap (λ (l : List ℕ). number ∷ l) (started_join first later flags more (omega arith))
+started_join (number ∷ first) later (true ∷ flags) more same =
+    ap (λ (l : List ℕ). number ∷ l) (started_join first later flags more (omega arith))
 started_join (number ∷ first) later (false ∷ flags) more same = started_join first later flags more (omega arith)
 
 -- what starts, and the end of one, say whose job they are
-pub start_numbers : (numbers : List ℕ) (second : ℤ) (flags : List Bool) (number : ℕ) → Has (map number_of_step (steps_of_starts numbers second flags)) number → Has numbers number
+pub start_numbers : (numbers : List ℕ) (second : ℤ) (flags : List Bool) (number : ℕ)
+    → Has (map number_of_step (steps_of_starts numbers second flags)) number → Has numbers number
 start_numbers [] second flags number has = absurd has
 start_numbers (first ∷ numbers) second [] number (inl same) = inl same
 start_numbers (first ∷ numbers) second [] number (inr none) = absurd none
@@ -148,7 +168,8 @@ start_numbers (first ∷ numbers) second (false ∷ flags) number (inr (inl same
 start_numbers (first ∷ numbers) second (false ∷ flags) number (inr (inr has)) = inr (start_numbers numbers second flags number has)
 
 -- so many of the jobs were started
-pub record HasLaunched (tells : Bool) (before after : Session) (old new : World) (kept now : Kept) (numbers : List ℕ) (count : ℕ) (second : ℤ)
+pub record HasLaunched (tells : Bool) (before after : Session) (old new : World) (kept now : Kept) (numbers : List ℕ)
+    (count : ℕ) (second : ℤ)
     (kids more : List Kid) (was is : List TurnStep) : Type 0 where
   pub part : TurnPart
   pub goes : MakesPart tells before after old new kept part (Ok now)
@@ -160,8 +181,10 @@ pub record HasLaunched (tells : Bool) (before after : Session) (old new : World)
   pub kids_are : more ≡ kids ++ part.added
   pub waiting : ArePendingNumbers now.table (drop count numbers)
 
-pub none_launched : (tells : Bool) (session : Session) (world : World) (kept : Kept) (numbers : List ℕ) (second : ℤ) (kids : List Kid) (was : List TurnStep) →
-    IsInside session → ArePendingNumbers kept.table numbers → HasLaunched tells session session world world kept kept numbers 0 second kids kids was was
+pub none_launched : (tells : Bool) (session : Session) (world : World) (kept : Kept) (numbers : List ℕ) (second : ℤ)
+    (kids : List Kid) (was : List TurnStep) →
+    IsInside session → ArePendingNumbers kept.table numbers
+    → HasLaunched tells session session world world kept kept numbers 0 second kids kids was was
 none_launched tells session world kept numbers second kids was inside waiting = record {
   part = no_part;
   goes = goes_none tells session world kept inside;
@@ -174,7 +197,9 @@ none_launched tells session world kept numbers second kids was inside waiting = 
   waiting = waiting;
 }
 
-module _ (tells : Bool) (before between after : Session) (old middle new : World) (kept now : Kept) (numbers : List ℕ) (count : ℕ) (second : ℤ) (kids more last : List Kid) (was is later : List TurnStep) (default : ℕ) (below : count < length numbers) (has : HasLaunched tells before between old middle kept now numbers count second kids more was is) where
+module _ (tells : Bool) (before between after : Session) (old middle new : World) (kept now : Kept) (numbers : List ℕ) (count : ℕ)
+    (second : ℤ) (kids more last : List Kid) (was is later : List TurnStep) (default : ℕ) (below : count < length numbers)
+    (has : HasLaunched tells before between old middle kept now numbers count second kids more was is) where
   abbrev number : ℕ
   number = get_or numbers count default
 
@@ -190,7 +215,8 @@ module _ (tells : Bool) (before between after : Session) (old middle new : World
   pub pending_now : IsPending now.table number
   pending_now = all_each (IsPending now.table) (number ∷ drop (count + 1) numbers) waiting_now.each number (inl refl)
 
-  pub may_start : (tells ≡ true → (table : JobTable) × IsCurrent kept old.now.directory table) → MayStep tells between middle now (Start number second)
+  pub may_start : (tells ≡ true → (table : JobTable) × IsCurrent kept old.now.directory table)
+      → MayStep tells between middle now (Start number second)
   may_start current = record {
     inside = has.goes.inside;
     legal = pending_now;
@@ -203,14 +229,17 @@ module _ (tells : Bool) (before between after : Session) (old middle new : World
   rest_apart = differ_apart (number ∷ drop (count + 1) numbers) waiting_now.apart
 
   -- those after it still wait
-  rest_waits : (store : Kept) (part : TurnPart) → store.table ≡ after_steps now.table (steps_of_turn part.steps) → part.steps ≡ steps_of_starts (number ∷ []) second part.flags →
+  rest_waits : (store : Kept) (part : TurnPart) → store.table ≡ after_steps now.table (steps_of_turn part.steps)
+      → part.steps ≡ steps_of_starts (number ∷ []) second part.flags →
       ArePendingNumbers store.table (drop (count + 1) numbers)
   rest_waits store part table_is steps =
       subst (λ (table : JobTable). ArePendingNumbers table (drop (count + 1) numbers)) (sym table_is)
       (waiting_after now.table part.steps (drop (count + 1) numbers) (record {
-        each = each_all (IsPending now.table) (drop (count + 1) numbers) (λ one here. all_each (IsPending now.table) (number ∷ drop (count + 1) numbers) waiting_now.each one (inr here));
+        each = each_all (IsPending now.table) (drop (count + 1) numbers)
+            (λ one here. all_each (IsPending now.table) (number ∷ drop (count + 1) numbers) waiting_now.each one (inr here));
         apart = apart_differ (drop (count + 1) numbers) rest_apart.1;
-      }) (λ one here there. by_one one here (start_numbers (number ∷ []) second part.flags one (subst (λ (l : List TurnStep). Has (map number_of_step l) one) steps there)))) where
+      }) (λ one here there. by_one one here (start_numbers (number ∷ []) second part.flags one
+      (subst (λ (l : List TurnStep). Has (map number_of_step l) one) steps there)))) where
         by_one : (one : ℕ) → Has (drop (count + 1) numbers) one → Has (number ∷ []) one → ⊥
         by_one one here (inl same) = rest_apart.0 (subst (Has (drop (count + 1) numbers)) (sym same) here)
         by_one one here (inr none) = none
@@ -228,7 +257,8 @@ module _ (tells : Bool) (before between after : Session) (old middle new : World
     part = joined_parts has.part one.part;
     goes = goes_then tells before between after old middle new kept now has.part one.part (Ok store) has.goes one.goes;
     counted = omega (arith, length-append has.part.flags one.part.flags, has.counted, one.started.all.0);
-    steps = ap (λ (l : List TurnStep). l ++ one.part.steps) has.steps ∙ ap (λ (l : List TurnStep). steps_of_starts (take count numbers) second has.part.flags ++ l) one.started.all.1
+    steps = ap (λ (l : List TurnStep). l ++ one.part.steps) has.steps
+        ∙ ap (λ (l : List TurnStep). steps_of_starts (take count numbers) second has.part.flags ++ l) one.started.all.1
         ∙ sym (starts_join (take count numbers) (number ∷ []) second has.part.flags one.part.flags length_taken)
         ∙ ap (λ (l : List ℕ). steps_of_starts l second (has.part.flags ++ one.part.flags)) (sym taken);
     numbered = map-append (λ (kid : Kid). kid.number) has.part.added one.part.added
@@ -247,13 +277,15 @@ module _ (tells : Bool) (before between after : Session) (old middle new : World
   split = sym (take-append-drop count numbers) ∙ ap (λ (l : List ℕ). take count numbers ++ l) dropped
 
   -- the steps of the next start are a prefix of those of it and the rest
-  one_prefix : (flags : List Bool) → length flags ≤ 1 → (beyond : List TurnStep) × (steps_of_starts (number ∷ drop (count + 1) numbers) second flags ≡ steps_of_starts (number ∷ []) second flags ++ beyond)
+  one_prefix : (flags : List Bool) → length flags ≤ 1 → (beyond : List TurnStep)
+      × (steps_of_starts (number ∷ drop (count + 1) numbers) second flags ≡ steps_of_starts (number ∷ []) second flags ++ beyond)
   one_prefix [] few = ([], refl)
   one_prefix (true ∷ []) few = (steps_of_starts (drop (count + 1) numbers) second [], refl)
   one_prefix (false ∷ []) few = (steps_of_starts (drop (count + 1) numbers) second [], refl)
   one_prefix (flag ∷ other ∷ flags) few = absurd (omega arith)
 
-  started_one : (flags : List Bool) → length flags ≤ 1 → started_of (number ∷ drop (count + 1) numbers) flags ≡ started_of (number ∷ []) flags
+  started_one : (flags : List Bool) → length flags ≤ 1
+      → started_of (number ∷ drop (count + 1) numbers) flags ≡ started_of (number ∷ []) flags
   started_one [] few = refl
   started_one (true ∷ []) few = ap (λ (l : List ℕ). number ∷ l) (nothing (drop (count + 1) numbers)) where
     nothing : (rest : List ℕ) → started_of rest [] ≡ []
@@ -269,7 +301,8 @@ module _ (tells : Bool) (before between after : Session) (old middle new : World
       Launches tells between after middle new now (number ∷ []) second more last is later (Err fault) →
       Launches tells before after old new kept numbers second kids last was later result
   stopped_launch fault (Ok store) err one = absurd err
-  stopped_launch fault (Err other) err one = subst (λ (of : StoreFault). Launches tells before after old new kept numbers second kids last was later (Err of)) (sym err) (
+  stopped_launch fault (Err other) err one =
+      subst (λ (of : StoreFault). Launches tells before after old new kept numbers second kids last was later (Err of)) (sym err) (
       let rest = one_prefix one.part.flags one.started.few in
       record {
         part = joined_parts has.part one.part;
@@ -280,38 +313,47 @@ module _ (tells : Bool) (before between after : Session) (old middle new : World
             one.started.prefix.0 ++ rest.0,
             ap (λ (l : List ℕ). steps_of_starts l second (has.part.flags ++ one.part.flags)) split
                 ∙ starts_join (take count numbers) (number ∷ drop (count + 1) numbers) second has.part.flags one.part.flags length_taken
-                ∙ ap (λ (l : List TurnStep). steps_of_starts (take count numbers) second has.part.flags ++ l) (rest.1 ∙ ap (λ (l : List TurnStep). l ++ rest.0) one.started.prefix.1)
+                ∙ ap (λ (l : List TurnStep). steps_of_starts (take count numbers) second has.part.flags ++ l) (rest.1
+                ∙ ap (λ (l : List TurnStep). l ++ rest.0) one.started.prefix.1)
                 ∙ ap (λ (l : List TurnStep). l ++ (((one.part.steps ++ one.part.next) ++ one.started.prefix.0) ++ rest.0)) (sym has.steps)
                 ∙ regroup has.part.steps one.part.steps one.part.next one.started.prefix.0 rest.0,
           );
           all = tt;
           numbered = map-append (λ (kid : Kid). kid.number) has.part.added one.part.added
               ∙ ap (λ (l : List ℕ). l ++ map (λ (kid : Kid). kid.number) one.part.added) has.numbered
-              ∙ ap (λ (l : List ℕ). started_of (take count numbers) has.part.flags ++ l) (one.started.numbered ∙ sym (started_one one.part.flags one.started.few))
+              ∙ ap (λ (l : List ℕ). started_of (take count numbers) has.part.flags ++ l) (one.started.numbered
+              ∙ sym (started_one one.part.flags one.started.few))
               ∙ sym (started_join (take count numbers) (number ∷ drop (count + 1) numbers) has.part.flags one.part.flags length_taken)
               ∙ ap (λ (l : List ℕ). started_of l (has.part.flags ++ one.part.flags)) (sym split);
           asked = ap (λ l. l ++ one.part.questions) has.asked ∙ one.started.asked;
         };
-        written = one.written ∙ ap (λ (l : List TurnStep). l ++ one.part.steps) has.written ∙ append_assoc was has.part.steps one.part.steps;
+        written = one.written ∙ ap (λ (l : List TurnStep). l ++ one.part.steps) has.written
+            ∙ append_assoc was has.part.steps one.part.steps;
         kids_are = one.kids_are ∙ ap (λ (l : List Kid). l ++ one.part.added) has.kids_are ∙ append_assoc kids has.part.added one.part.added;
       }) where
         regroup : (a b c d e : List TurnStep) → a ++ (((b ++ c) ++ d) ++ e) ≡ ((a ++ b) ++ c) ++ (d ++ e)
         regroup a b c d e = simp append_assoc
 
 -- all jobs were started
-pub all_launched : (tells : Bool) (before after : Session) (old new : World) (kept now : Kept) (numbers : List ℕ) (count : ℕ) (second : ℤ) (kids more : List Kid) (was is : List TurnStep) →
+pub all_launched : (tells : Bool) (before after : Session) (old new : World) (kept now : Kept) (numbers : List ℕ) (count : ℕ) (second : ℤ)
+    (kids more : List Kid) (was is : List TurnStep) →
     count ≡ length numbers → HasLaunched tells before after old new kept now numbers count second kids more was is →
     Launches tells before after old new kept numbers second kids more was is (Ok now)
 all_launched tells before after old new kept now numbers count second kids more was is whole has =
     let all : take count numbers ≡ numbers = ap (λ (n : ℕ). take n numbers) whole ∙ take-length numbers in
-    let steps : has.part.steps ≡ steps_of_starts numbers second has.part.flags = has.steps ∙ ap (λ (l : List ℕ). steps_of_starts l second has.part.flags) all in
+    let steps : has.part.steps ≡ steps_of_starts numbers second has.part.flags = has.steps
+    ∙ ap (λ (l : List ℕ). steps_of_starts l second has.part.flags) all in
     let none : has.part.next ≡ [] = has.goes.whole in
     record {
       part = has.part;
       goes = has.goes;
       started = record {
         few = omega (arith, has.counted, whole);
-        prefix = ([], sym (ap (λ (l : List TurnStep). (has.part.steps ++ l) ++ []) none ∙ append-nil (has.part.steps ++ []) ∙ append-nil has.part.steps ∙ steps));
+        prefix = (
+          [],
+          sym (ap (λ (l : List TurnStep). (has.part.steps ++ l) ++ []) none ∙ append-nil (has.part.steps ++ [])
+              ∙ append-nil has.part.steps ∙ steps),
+        );
         all = (has.counted ∙ whole, steps);
         numbered = has.numbered ∙ ap (λ (l : List ℕ). started_of l has.part.flags) all;
         asked = has.asked;
@@ -321,11 +363,14 @@ all_launched tells before after old new kept now numbers count second kids more 
     }
 
 -- the second as it is written
-pub launches_at : (tells : Bool) (before after : Session) (old new : World) (kept : Kept) (numbers : List ℕ) (written second : ℤ) (kids more : List Kid) (was is : List TurnStep) (result : Result Kept StoreFault) →
-    written ≡ second → Launches tells before after old new kept numbers written kids more was is result → Launches tells before after old new kept numbers second kids more was is result
+pub launches_at : (tells : Bool) (before after : Session) (old new : World) (kept : Kept) (numbers : List ℕ) (written second : ℤ)
+    (kids more : List Kid) (was is : List TurnStep) (result : Result Kept StoreFault) →
+    written ≡ second → Launches tells before after old new kept numbers written kids more was is result
+    → Launches tells before after old new kept numbers second kids more was is result
 launches_at tells before after old new kept numbers written second kids more was is result same launches =
     subst (λ (of : ℤ). Launches tells before after old new kept numbers of kids more was is result) same launches
 
-pub report_at : (was before is : List TurnStep) (number : ℕ) (written second : ℤ) → written ≡ second → before ≡ was → is ≡ before ++ HandedOver number written ∷ [] → is ≡ was ++ HandedOver number second ∷ []
+pub report_at : (was before is : List TurnStep) (number : ℕ) (written second : ℤ) → written ≡ second → before ≡ was
+    → is ≡ before ++ HandedOver number written ∷ [] → is ≡ was ++ HandedOver number second ∷ []
 report_at was before is number written second same kept pushed =
     pushed ∙ ap (λ (of : ℤ). before ++ HandedOver number of ∷ []) same ∙ ap (λ (l : List TurnStep). l ++ HandedOver number second ∷ []) kept

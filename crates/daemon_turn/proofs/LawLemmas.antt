@@ -40,7 +40,8 @@ module _ (old new : World) (good : (image : Files) → IsImage old.now.directory
   good_begun : (table : JobTable) (steps : List Step) → IsBegun table steps old new → LeavesOnly (λ image handed. IsGood image) old new
   good_begun table steps begun = (begun_attempts_keep_good table steps old new good begun).leaves
 
-good_by : (turn : Turn) (steps : List TurnStep) (old new : DaemonAt) (end : TurnEnd) → TurnLeaves turn steps old new end → ((image : Files) → IsImage old.world.now.directory image → IsGood image) →
+good_by : (turn : Turn) (steps : List TurnStep) (old new : DaemonAt) (end : TurnEnd) → TurnLeaves turn steps old new end
+    → ((image : Files) → IsImage old.world.now.directory image → IsGood image) →
     LeavesOnly (λ image handed. IsGood image) old.world new.world
 good_by turn steps old new Done whole good = good_begun old.world new.world good whole.table _ whole.achieved.begun
 good_by turn steps old new Busy idle good = good_unbegun old.world new.world good idle.0.unbegun
@@ -52,12 +53,14 @@ good_by turn steps old new Memory (inr stopped) good = good_begun old.world new.
 
 pub good_directories_stay_good : GoodDirectoriesStayGood
 good_directories_stay_good tells alone at old new end steps turn known is_alone good =
-    let leaves : LeavesOnly (λ image handed. IsGood image) old.world new.world = good_by (turn_of old.daemon at) steps old new end (turn.leaves known is_alone) good in
+    let leaves : LeavesOnly (λ image handed. IsGood image) old.world new.world =
+    good_by (turn_of old.daemon at) steps old new end (turn.leaves known is_alone) good in
     record { leaves = leaves; now = at_end (λ image handed. IsGood image) old.world new.world leaves good }
 
 -- The reading after a turn.
 
-idle_reads : (steps : List TurnStep) (old new : DaemonAt) → IsTurnIdle steps old new → IsGood (reading old.world) → IsGood (reading new.world)
+idle_reads : (steps : List TurnStep) (old new : DaemonAt) → IsTurnIdle steps old new → IsGood (reading old.world)
+    → IsGood (reading new.world)
 idle_reads steps old new idle good = (good.0, idle.shown ∙ good.1)
 
 stopped_reads : (turn : Turn) (steps : List TurnStep) (old new : DaemonAt) → IsTurnStopped turn steps old new → IsGood (reading new.world)
@@ -66,7 +69,8 @@ stopped_reads turn steps old new stopped = elim (stopped.ends (reading new.world
   | inr with_next ↦ (after_steps stopped.table (steps_of_turn (steps ++ stopped.next)), with_next)
 ]
 
-reads_by : (turn : Turn) (steps : List TurnStep) (old new : DaemonAt) (end : TurnEnd) → TurnLeaves turn steps old new end → IsGood (reading old.world) → IsGood (reading new.world)
+reads_by : (turn : Turn) (steps : List TurnStep) (old new : DaemonAt) (end : TurnEnd) → TurnLeaves turn steps old new end
+    → IsGood (reading old.world) → IsGood (reading new.world)
 reads_by turn steps old new Done whole good =
     (after_steps whole.table (steps_of_turn steps), whole.achieved.whole (reading new.world) (reading_is_image new.world.now.directory))
 reads_by turn steps old new Busy idle good = idle_reads steps old new idle.0 good
@@ -77,4 +81,5 @@ reads_by turn steps old new Memory (inl idle) good = idle_reads steps old new id
 reads_by turn steps old new Memory (inr stopped) good = stopped_reads turn steps old new stopped
 
 pub readings_stay_good : ReadingsStayGood
-readings_stay_good tells alone at old new end steps turn known is_alone good = reads_by (turn_of old.daemon at) steps old new end (turn.leaves known is_alone) good
+readings_stay_good tells alone at old new end steps turn known is_alone good =
+    reads_by (turn_of old.daemon at) steps old new end (turn.leaves known is_alone) good

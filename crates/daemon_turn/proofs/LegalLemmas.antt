@@ -49,7 +49,8 @@ legal_apart table (step ∷ later) each apart = (
   each step (inl refl),
   legal_apart (after_step table (step_of step)) later
       (λ other has. legal_alike table (after_step table (step_of step)) other
-      (entry_stays table step (number_of_step other) (λ same. apart.0 (subst (Has (map number_of_step later)) same (has_made number_of_step later other has))))
+      (entry_stays table step (number_of_step other)
+      (λ same. apart.0 (subst (Has (map number_of_step later)) same (has_made number_of_step later other has))))
       (each other (inr has)))
       apart.1,
 )

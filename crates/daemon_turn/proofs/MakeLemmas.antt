@@ -27,22 +27,28 @@ use Rattle.daemon_turn.specs.inside.MadeSteps.{MakesAll}
 use Rattle.daemon_turn.proofs.GoLemmas.{memory_goes}
 
 -- there was no memory for the steps
-pub nothing_made : {tells : Bool} {session : Session} {world : World} {kept : Kept} (steps was is : List TurnStep) (result : Result Kept StoreFault) →
-    IsErrAnd result (λ other. other ≡ Memory) → IsInside session → is ≡ was → MakesAll tells session session world world kept steps was is result
+pub nothing_made : {tells : Bool} {session : Session} {world : World} {kept : Kept} (steps was is : List TurnStep)
+    (result : Result Kept StoreFault) →
+    IsErrAnd result (λ other. other ≡ Memory) → IsInside session → is ≡ was
+    → MakesAll tells session session world world kept steps was is result
 nothing_made {tells} {session} {world} {kept} steps was is result err inside same =
     let fault = err_from_is_err_and result err in
-    subst (MakesAll tells session session world world kept steps was is) (sym (fault.1 ∙ ap (λ (of : StoreFault). Err of) fault.2)) (record {
+    subst (MakesAll tells session session world world kept steps was is)
+    (sym (fault.1 ∙ ap (λ (of : StoreFault). Err of) fault.2)) (record {
       made = [];
       next = [];
-      goes = memory_goes tells session session world world kept [] (stays_inside session inside) (λ known now table current. no_steps_are_made table now world current);
+      goes = memory_goes tells session session world world kept [] (stays_inside session inside)
+          (λ known now table current. no_steps_are_made table now world current);
       prefix = (steps, refl);
       all = tt;
       written = same ∙ sym (append-nil was);
     })
 
 -- they were made, or the first of them
-pub made_all : {tells : Bool} {before after : Session} {old new : World} {kept : Kept} (steps was is : List TurnStep) {made : ℕ} (result : Result Kept StoreFault) →
-    MakesSteps tells before after old new kept (steps_of_turn steps) made result → is ≡ was ++ take made steps → MakesAll tells before after old new kept steps was is result
+pub made_all : {tells : Bool} {before after : Session} {old new : World} {kept : Kept} (steps was is : List TurnStep) {made : ℕ}
+    (result : Result Kept StoreFault) →
+    MakesSteps tells before after old new kept (steps_of_turn steps) made result → is ≡ was ++ take made steps
+    → MakesAll tells before after old new kept steps was is result
 made_all {tells} {before} {after} {old} {new} {kept} steps was is {made} (Ok store) makes written = record {
   made = steps;
   next = [];
@@ -58,7 +64,8 @@ made_all {tells} {before} {after} {old} {new} {kept} steps was is {made} (Ok sto
   };
   prefix = ([], sym (append-nil (steps ++ []) ∙ append-nil steps));
   all = refl;
-  written = written ∙ ap (λ (l : List TurnStep). was ++ l) (ap (λ (n : ℕ). take n steps) (makes.all ∙ length-map steps step_of) ∙ take-length steps);
+  written = written
+      ∙ ap (λ (l : List TurnStep). was ++ l) (ap (λ (n : ℕ). take n steps) (makes.all ∙ length-map steps step_of) ∙ take-length steps);
 }
 made_all {tells} {before} {after} {old} {new} {kept} steps was is {made} (Err fault) makes written = record {
   made = take made steps;
@@ -77,7 +84,8 @@ made_all {tells} {before} {after} {old} {new} {kept} steps was is {made} (Err fa
       numbered = refl;
       ends = subst (λ (l : List Step). AreStopped table (steps_of_turn (take made steps)) l [] [] old new)
           (ap (take makes.begun) (drop-map step_of made steps) ∙ take-map step_of makes.begun (drop made steps))
-          (subst (λ (l : List Step). AreStopped table l (take makes.begun (drop made (steps_of_turn steps))) [] [] old new) (take-map step_of made steps) (makes.files known table current));
+          (subst (λ (l : List Step). AreStopped table l (take makes.begun (drop made (steps_of_turn steps))) [] [] old new)
+          (take-map step_of made steps) (makes.files known table current));
     };
   };
   prefix = made_prefix steps made makes.begun;
@@ -86,13 +94,16 @@ made_all {tells} {before} {after} {old} {new} {kept} steps was is {made} (Err fa
 }
 
 -- what is written down, and then cut after those that were made
-pub written_part : (was steps : List TurnStep) (made count : ℕ) → count ≡ length was + made → take count (was ++ steps) ≡ was ++ take made steps
+pub written_part : (was steps : List TurnStep) (made count : ℕ) → count ≡ length was + made
+    → take count (was ++ steps) ≡ was ++ take made steps
 written_part [] steps made count is = ap (λ (n : ℕ). take n steps) (let same : count ≡ made = omega (arith, is) in same)
 written_part (step ∷ was) steps made zero is = absurd (omega (arith, is))
-written_part (step ∷ was) steps made (suc count) is = ap (λ (l : List TurnStep). step ∷ l) (written_part was steps made count (omega (arith, is)))
+written_part (step ∷ was) steps made (suc count) is =
+    ap (λ (l : List TurnStep). step ∷ l) (written_part was steps made count (omega (arith, is)))
 
 -- what is too much may be forgotten
-pub may_forget_all : {tells : Bool} {session : Session} {world : World} {kept : Kept} (steps : List TurnStep) → MayMakePart tells session world kept → steps ≡ forgotten_steps kept.table →
+pub may_forget_all : {tells : Bool} {session : Session} {world : World} {kept : Kept} (steps : List TurnStep)
+    → MayMakePart tells session world kept → steps ≡ forgotten_steps kept.table →
     MayMakeSteps tells session world kept (steps_of_turn steps)
 may_forget_all {tells} {session} {world} {kept} steps may is =
     may_forget (steps_of_turn steps) (ap steps_of_turn is ∙ map-map step_of Forgotten (surplus kept.table)) may.inside may.current

@@ -20,14 +20,18 @@ use Rattle.daemon_turn.specs.StartOrder.{IsBatchOrderWhere, IsFullOrder, Turn, h
 pub lost_listed : (table : JobTable) (rows : List Row) (kids : List Kid) → ListsLive table rows →
     map (λ (row : Row). Interrupted row.number) (filter (is_job_without_kid kids) rows) ≡ interrupts table kids
 lost_listed table rows kids lists =
-    ap (λ (listed : List Row). map (λ (row : Row). Interrupted row.number) (filter (is_job_without_kid kids) listed)) (sym (rows_listed table rows lists))
+    ap (λ (listed : List Row). map (λ (row : Row). Interrupted row.number) (filter (is_job_without_kid kids) listed))
+    (sym (rows_listed table rows lists))
 
 -- an item of the first of a line, or of none
-pub batch_in_line : (table : JobTable) (due_jobs : List Due) (now written : ℤ) (may : Bool) (found : Option ℕ) → written ≡ now → may ≡ true → IsLineOf (is_ready_batch written) (live_rows table) due_jobs
-    → IfSome found (λ number. (due : Due) × (later : List Due) × (due_jobs ≡ due ∷ later) × (number ≡ due.number)) → IfNone found (due_jobs ≡ []) → IsBatchOrderWhere may table now (option_to_list found)
+pub batch_in_line : (table : JobTable) (due_jobs : List Due) (now written : ℤ) (may : Bool) (found : Option ℕ) → written ≡ now → may ≡ true
+    → IsLineOf (is_ready_batch written) (live_rows table) due_jobs
+    → IfSome found (λ number. (due : Due) × (later : List Due) × (due_jobs ≡ due ∷ later) × (number ≡ due.number))
+    → IfNone found (due_jobs ≡ []) → IsBatchOrderWhere may table now (option_to_list found)
 batch_in_line table due_jobs now written may found same is line some none =
     subst (λ (b : Bool). IsBatchOrderWhere b table now (option_to_list found)) (sym is) (by_found found some none) where
-      by_found : (one : Option ℕ) → IfSome one (λ number. (due : Due) × (later : List Due) × (due_jobs ≡ due ∷ later) × (number ≡ due.number)) → IfNone one (due_jobs ≡ [])
+      by_found : (one : Option ℕ) → IfSome one (λ number. (due : Due) × (later : List Due) × (due_jobs ≡ due ∷ later)
+          × (number ≡ due.number)) → IfNone one (due_jobs ≡ [])
           → IsBatchOrderWhere true table now (option_to_list one)
       by_found (Some number) (due, later, are, of) other =
           inl (
@@ -39,12 +43,15 @@ batch_in_line table due_jobs now written may found same is line some none =
       by_found None first other =
           inr (
             subst (λ (at : ℤ). places_of (is_ready_batch at) (live_rows table) ≡ []) same
-                (no_places (is_ready_batch written) (live_rows table) (subst (IsLineOf (is_ready_batch written) (live_rows table)) other line)),
+                (no_places (is_ready_batch written) (live_rows table)
+                (subst (IsLineOf (is_ready_batch written) (live_rows table)) other line)),
             refl,
           )
 
-pub order_in_line : (turn : Turn) (table : JobTable) (due_jobs : List Due) (written : ℤ) (numbers : List ℕ) (batch : Option ℕ) (order : List ℕ) → written ≡ turn.now
-    → IsLineOf (is_ready_job written) (live_rows table) due_jobs → numbers ≡ map (λ due. due.number) due_jobs → IsBatchOrderWhere (has_batch_turn turn table) table turn.now (option_to_list batch)
+pub order_in_line : (turn : Turn) (table : JobTable) (due_jobs : List Due) (written : ℤ) (numbers : List ℕ) (batch : Option ℕ)
+    (order : List ℕ) → written ≡ turn.now
+    → IsLineOf (is_ready_job written) (live_rows table) due_jobs → numbers ≡ map (λ due. due.number) due_jobs
+    → IsBatchOrderWhere (has_batch_turn turn table) table turn.now (option_to_list batch)
     → order ≡ numbers ++ option_to_list batch → IsFullOrder turn table order
 order_in_line turn table due_jobs written numbers batch order same line are allowed both = record {
   jobs = numbers;

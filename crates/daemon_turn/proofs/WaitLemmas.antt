@@ -40,14 +40,17 @@ ready_waits : (table : JobTable) (now : ℤ) (queued : Row → Bool) (number : �
 ready_waits table now queued number of =
     let ready : is_ready now of.row ≡ true = (and_parts (is_ready now of.row) (queued of.row) of.passes).0 in
     subst (IsPending table) of.named
-    (row_waits table of.row (has_contained (live_rows table) of.row of.listed) (and_parts (is_pending of.row.state) (is_due now of.row) ready).0)
+    (row_waits table of.row (has_contained (live_rows table) of.row of.listed)
+    (and_parts (is_pending of.row.state) (is_due now of.row) ready).0)
 
 -- the numbers that start, one mode and one case after another
 module _ (turn : Turn) (table : JobTable) where
-  batch_waits : (may : Bool) (batch : List ℕ) → IsBatchOrderWhere may table turn.now batch → (number : ℕ) → Has batch number → IsPending table number
+  batch_waits : (may : Bool) (batch : List ℕ) → IsBatchOrderWhere may table turn.now batch → (number : ℕ) → Has batch number
+      → IsPending table number
   batch_waits true batch (inl some) number has = by_one (subst (λ (numbers : List ℕ). Has numbers number) some.2 has) where
     by_one : Has (some.0 ∷ []) number → IsPending table number
-    by_one (inl same) = subst (IsPending table) same (ready_waits table turn.now (λ row. is_batch_queue row.queue) some.0 (batch_number (live_rows table) turn.now some.0 some.1))
+    by_one (inl same) = subst (IsPending table) same
+        (ready_waits table turn.now (λ row. is_batch_queue row.queue) some.0 (batch_number (live_rows table) turn.now some.0 some.1))
     by_one (inr none) = absurd none
   batch_waits true batch (inr none) number has = absurd (subst (λ (numbers : List ℕ). Has numbers number) none.1 has)
   batch_waits false batch none number has = absurd (subst (λ (numbers : List ℕ). Has numbers number) none has)
@@ -58,13 +61,15 @@ module _ (turn : Turn) (table : JobTable) where
   batch_apart false batch none = subst Apart (sym none) tt
 
   -- the batch job is none of the others
-  batch_other : (may : Bool) (jobs batch : List ℕ) → AreInDueOrder (live_rows table) turn.now jobs → IsBatchOrderWhere may table turn.now batch →
+  batch_other : (may : Bool) (jobs batch : List ℕ) → AreInDueOrder (live_rows table) turn.now jobs
+      → IsBatchOrderWhere may table turn.now batch →
       (number : ℕ) → Has jobs number → Has batch number → ⊥
   batch_other true jobs batch due (inl some) number job has = by_one (subst (λ (numbers : List ℕ). Has numbers number) some.2 has) where
     by_one : Has (some.0 ∷ []) number → ⊥
     by_one (inl same) =
         all_each (λ other. other ≢ some.0) jobs
-        (batch_is_apart (live_rows table) turn.now jobs some.0 (apart_differ (row_numbers (live_rows table)) (rows_apart table)) due some.1) number job (sym same)
+        (batch_is_apart (live_rows table) turn.now jobs some.0 (apart_differ (row_numbers (live_rows table)) (rows_apart table)) due some.1)
+        number job (sym same)
     by_one (inr none) = none
   batch_other true jobs batch due (inr none) number job has = subst (λ (numbers : List ℕ). Has numbers number) none.1 has
   batch_other false jobs batch due none number job has = subst (λ (numbers : List ℕ). Has numbers number) none has
@@ -73,11 +78,13 @@ module _ (turn : Turn) (table : JobTable) where
   full_waits order full = subst (ArePendingNumbers table) (sym full.both) (record {
     each = each_all (IsPending table) (full.jobs ++ full.batch) (λ number has. elim (has_either full.jobs full.batch number has) [
       | inl job ↦ ready_waits table turn.now (λ row. not (is_batch_queue row.queue)) number
-          (all_each (IsNumberOf (is_ready_job turn.now) (live_rows table)) full.jobs (due_numbers (live_rows table) turn.now full.jobs full.due) number job)
+          (all_each (IsNumberOf (is_ready_job turn.now) (live_rows table)) full.jobs
+          (due_numbers (live_rows table) turn.now full.jobs full.due) number job)
       | inr batch ↦ batch_waits (has_batch_turn turn table) full.batch full.allowed number batch
     ]);
     apart = apart_differ (full.jobs ++ full.batch) (apart_append full.jobs full.batch
-        (differ_apart full.jobs (due_numbers_differ (live_rows table) turn.now full.jobs (apart_differ (row_numbers (live_rows table)) (rows_apart table)) full.due))
+        (differ_apart full.jobs (due_numbers_differ (live_rows table) turn.now full.jobs
+        (apart_differ (row_numbers (live_rows table)) (rows_apart table)) full.due))
         (batch_apart (has_batch_turn turn table) full.batch full.allowed)
         (batch_other (has_batch_turn turn table) full.jobs full.batch full.due full.allowed));
   })
@@ -96,7 +103,8 @@ module _ (turn : Turn) (table : JobTable) where
 
 -- they still wait after steps of other jobs
 pub waiting_after : (table : JobTable) (steps : List TurnStep) (numbers : List ℕ) → ArePendingNumbers table numbers →
-    ((number : ℕ) → Has numbers number → Has (map number_of_step steps) number → ⊥) → ArePendingNumbers (after_steps table (steps_of_turn steps)) numbers
+    ((number : ℕ) → Has numbers number → Has (map number_of_step steps) number → ⊥)
+    → ArePendingNumbers (after_steps table (steps_of_turn steps)) numbers
 waiting_after table steps numbers waiting others = record {
   each = each_all (IsPending (after_steps table (steps_of_turn steps))) numbers (λ number has.
       (let was : IsPending table number = all_each (IsPending table) numbers waiting.each number has in
@@ -107,4 +115,6 @@ waiting_after table steps numbers waiting others = record {
 -- a job that waits does not run
 pub waits_or_runs : (table : JobTable) (number : ℕ) → IsPending table number → IsRunning table number → ⊥
 waits_or_runs table number pending running =
-    let both : ◌≡◌ {A = Option JobEntry} (Some (Live pending.0 Pending)) (Some (Live running.0 (Running running.1))) = sym pending.1 ∙ running.2 in cc
+    let both : ◌≡◌ {A = Option JobEntry} (Some (Live pending.0 Pending)) (Some (Live running.0 (Running running.1))) =
+    sym pending.1 ∙ running.2 in
+    cc

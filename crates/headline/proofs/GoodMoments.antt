@@ -79,7 +79,8 @@ begun_keeps : (opening : JobTable) (all : List Step) (first : List Handed) (tabl
 begun_keeps opening all first table steps old new follow begun within good =
     let start : (given : List Handed) × (old.now.handed ≡ first ++ given) × IsGood opening all false given table =
     shown_good opening all first old table begun.shown (good (reading old) (reading_is_image old.now.directory)) in
-    let on : (image : Files) (handed : List Handed) → IsShownAlong table steps old.now image handed → ShowsGood opening all first image handed =
+    let on : (image : Files) (handed : List Handed) → IsShownAlong table steps old.now image handed
+    → ShowsGood opening all first image handed =
     along opening all first table steps old.now start.0 begun.legal follow within start.1 start.2 in
     record {
       leaves = leaves_weaker (IsShownOnTheWay table steps old.now) (ShowsGood opening all first) old new
@@ -94,7 +95,8 @@ begun_keeps opening all first table steps old new follow begun within good =
 crash_keeps : (opening : JobTable) (all : List Step) (first : List Handed) (image : Files) (old new : World) →
     ComesUpWith image old new → HasEachImage (ShowsGood opening all first) old.now → Keeps (ShowsGood opening all first) old new
 crash_keeps opening all first image old new up good =
-    let kept : (other : Files) (handed : List Handed) → IsImage old.now.directory other → handed ≡ old.now.handed → ShowsGood opening all first other handed =
+    let kept : (other : Files) (handed : List Handed) → IsImage old.now.directory other → handed ≡ old.now.handed
+    → ShowsGood opening all first other handed =
     λ other handed was same. subst (ShowsGood opening all first other) (sym same) (good other was) in
     record {
       leaves = leaves_weaker (λ (other : Files) (handed : List Handed). IsImage old.now.directory other × (handed ≡ old.now.handed))
@@ -107,7 +109,8 @@ pub event_keeps : (opening : JobTable) (all : List Step) (first : List Handed) (
     TakesShownEffect effect old new → All (Contains all) (steps_begun effect) → HasEachImage (ShowsGood opening all first) old.now →
     Keeps (ShowsGood opening all first) old new
 event_keeps opening all first Untouched old new moved within good = record {
-  leaves = leaves_weaker (IsShownAsBefore old.now) (ShowsGood opening all first) old new (as_before opening all first old.now good) moved.leaves;
+  leaves =
+      leaves_weaker (IsShownAsBefore old.now) (ShowsGood opening all first) old new (as_before opening all first old.now good) moved.leaves;
   now = λ image is. as_before opening all first old.now good image new.now.handed (moved.now image is);
 }
 event_keeps opening all first (Partial table steps) old new moved within good =

@@ -81,7 +81,8 @@ good_lacking opening all given more table steps legal follow within lacks good =
     let follow_all : FollowDraws false (lacks.earlier ++ last ∷ []) = subst (FollowDraws false) lacks.ends follow in
     let before : IsGood opening all false (given ++ more) (after_steps table lacks.earlier) =
     good_steps opening all false given more table lacks.earlier parts.prefix_legal
-    (follows_prefix false lacks.earlier (last ∷ []) follow_all) (all_prefix (Contains all) lacks.earlier (last ∷ []) within_all) lacks.hands good in
+    (follows_prefix false lacks.earlier (last ∷ []) follow_all)
+    (all_prefix (Contains all) lacks.earlier (last ∷ []) within_all) lacks.hands good in
     let after : IsGood opening all false (given ++ more) (after_step (after_steps table lacks.earlier) last) =
     good_quiet opening all false (given ++ more) (after_steps table lacks.earlier) last parts.rest_legal.0 tt
     (All-head (Contains all) last [] (all_rest (Contains all) lacks.earlier (last ∷ []) within_all)) before in

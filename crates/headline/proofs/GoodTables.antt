@@ -50,7 +50,8 @@ good_between opening all drawn given table good = record {
   sound = good.sound;
   once = good.once;
   of_jobs = good.of_jobs;
-  stand = All-weaker (λ (handed : Handed). Holds all drawn table handed.number) (λ (handed : Handed). Holds all false table handed.number) older given good.stand;
+  stand = All-weaker (λ (handed : Handed). Holds all drawn table handed.number)
+      (λ (handed : Handed). Holds all false table handed.number) older given good.stand;
   pending = good.pending;
 } where
   older : (handed : Handed) → Holds all drawn table handed.number → Holds all false table handed.number

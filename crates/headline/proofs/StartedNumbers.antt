@@ -103,20 +103,25 @@ started_after : (all : List Step) (drawn : Bool) (table : JobTable) (step : Step
 started_after all drawn table Draw number legal follows within holds = holds.started
 started_after all true table (Accept accepted job) number legal follows within holds =
     let apart : ¬ (number ≡ accepted) = λ same. omega (arith, holds.old, legal.last) in
-    started_same table (after_step table (Accept accepted job)) all number (get-put_other table.entries accepted number (Live job Pending) apart) holds.started
+    started_same table (after_step table (Accept accepted job)) all number
+    (get-put_other table.entries accepted number (Live job Pending) apart) holds.started
 started_after all false table (Accept accepted job) number legal follows within holds = absurd (no_draw follows) where
   no_draw : IsTrue false → ⊥
   no_draw is = cc
 started_after all drawn table (Remove removed) number legal follows within holds =
-    let apart : ¬ (number ≡ removed) = λ same. started_not_pending table all number legal.0 holds.started (ap (entry_at table) same ∙ legal.1) in
-    started_same table (after_step table (Remove removed)) all number (get-put_other table.entries removed number (Done Removed) apart) holds.started
+    let apart : ¬ (number ≡ removed) =
+    λ same. started_not_pending table all number legal.0 holds.started (ap (entry_at table) same ∙ legal.1) in
+    started_same table (after_step table (Remove removed)) all number
+    (get-put_other table.entries removed number (Done Removed) apart) holds.started
 started_after all drawn table (Start started second) number legal follows within holds =
     started_put table (after_step table (Start started second)) all number started (Live legal.0 (Running second))
     (started_entries table started second legal.0 legal.1) (λ is. inl (legal.0, second, is)) holds.started
 started_after all drawn table (End ended ending) number legal follows within holds =
-    started_put table (after_step table (End ended ending)) all number ended (Done (Finished ending)) refl (λ is. inr (inl (Finished ending, is, λ same. cc))) holds.started
+    started_put table (after_step table (End ended ending)) all number ended (Done (Finished ending)) refl
+    (λ is. inr (inl (Finished ending, is, λ same. cc))) holds.started
 started_after all drawn table (Interrupt ended) number legal follows within holds =
-    started_put table (after_step table (Interrupt ended)) all number ended (Done Interrupted) refl (λ is. inr (inl (Interrupted, is, λ same. cc))) holds.started
+    started_put table (after_step table (Interrupt ended)) all number ended (Done Interrupted) refl
+    (λ is. inr (inl (Interrupted, is, λ same. cc))) holds.started
 started_after all drawn table (Forget forgotten) number legal follows within holds =
     let at : entry_at (after_step table (Forget forgotten)) number ≡ cond (nat_eq number forgotten) None (entry_at table number) =
     get-taken table.entries forgotten number in
@@ -166,17 +171,22 @@ pending_after table Draw legal number job is = inl is
 pending_after table (Accept accepted other) legal number job is = elim (eqb_tells number accepted) [
   | inl same ↦
       let put : Some (Live other Pending) ≡ Some (Live job Pending) =
-      sym (get-put table.entries accepted number (Live other Pending) ∙ ap (λ b. cond b (Some (Live other Pending)) (entry_at table number)) same.0) ∙ is in
+      sym (get-put table.entries accepted number (Live other Pending)
+      ∙ ap (λ b. cond b (Some (Live other Pending)) (entry_at table number)) same.0) ∙ is in
       let job_is : other ≡ job = cc in
       let number_is : number ≡ accepted = same.1 in
       inr cc
   | inr apart ↦ inl (sym (get-put_other table.entries accepted number (Live other Pending) apart.1) ∙ is)
 ]
-pending_after table (Remove removed) legal number job is = inl (pending_before table.entries removed number (Done Removed) job (λ same. cc) is)
+pending_after table (Remove removed) legal number job is =
+    inl (pending_before table.entries removed number (Done Removed) job (λ same. cc) is)
 pending_after table (Start started second) legal number job is =
     inl (pending_before table.entries started number (Live legal.0 (Running second)) job (λ same. cc)
     (ap (λ (entries : JobEntries). map.get entries number) (sym (started_entries table started second legal.0 legal.1)) ∙ is))
-pending_after table (End ended ending) legal number job is = inl (pending_before table.entries ended number (Done (Finished ending)) job (λ same. cc) is)
-pending_after table (Interrupt ended) legal number job is = inl (pending_before table.entries ended number (Done Interrupted) job (λ same. cc) is)
+pending_after table (End ended ending) legal number job is =
+    inl (pending_before table.entries ended number (Done (Finished ending)) job (λ same. cc) is)
+pending_after table (Interrupt ended) legal number job is =
+    inl (pending_before table.entries ended number (Done Interrupted) job (λ same. cc) is)
 pending_after table (Forget forgotten) legal number job is =
-    inl (other_choice (nat_eq number forgotten) None (map.get table.entries number) _ (λ same. cc) (sym (get-taken table.entries forgotten number) ∙ is))
+    inl (other_choice (nat_eq number forgotten) None (map.get table.entries number) _ (λ same. cc)
+    (sym (get-taken table.entries forgotten number) ∙ is))

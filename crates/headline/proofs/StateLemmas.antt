@@ -48,7 +48,8 @@ arrives Untouched old new at moved holds = (at, refl, still) where
   still : IsInState new.now.directory at
   still image is =
       let before : IsShownAsBefore old.now image new.now.handed = moved.now image is in
-      let prefix : (prefix : List Step) × IsPrefix prefix at.steps × Shows before.from (after_steps at.table prefix) = holds before.from before.was in
+      let prefix : (prefix : List Step) × IsPrefix prefix at.steps × Shows before.from (after_steps at.table prefix) =
+      holds before.from before.was in
       (prefix.0, prefix.1, before.same ∙ prefix.2)
 arrives (Partial table steps) old new at moved holds = (
   record { table = table; steps = steps },
@@ -65,9 +66,13 @@ arrives (Whole table steps) old new at moved holds = (
   settled_holds new.now.directory (after_steps table steps) moved.1.whole,
 )
 arrives (Crashed image) old new at moved holds =
-    let prefix : (prefix : List Step) × IsPrefix prefix at.steps × Shows image (after_steps at.table prefix) = holds image moved.was in
-    (settled_at (after_steps at.table prefix.0), (after_steps at.table prefix.0, prefix.2, (prefix.0, prefix.1, refl), refl), only prefix.0 prefix.2) where
-      only : (prefix : List Step) → Shows image (after_steps at.table prefix) → IsInState new.now.directory (settled_at (after_steps at.table prefix))
+    let prefix : (prefix : List Step) × IsPrefix prefix at.steps × Shows image (after_steps at.table prefix) = holds image moved.was in (
+      settled_at (after_steps at.table prefix.0),
+      (after_steps at.table prefix.0, prefix.2, (prefix.0, prefix.1, refl), refl),
+      only prefix.0 prefix.2,
+    ) where
+      only : (prefix : List Step) → Shows image (after_steps at.table prefix)
+          → IsInState new.now.directory (settled_at (after_steps at.table prefix))
       only prefix shows = settled_holds new.now.directory (after_steps at.table prefix)
           (λ other is. subst (λ (files : Files). Shows files (after_steps at.table prefix)) (sym (moved.only other is)) shows)
 

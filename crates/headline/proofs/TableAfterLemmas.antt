@@ -78,7 +78,8 @@ come_of : (old : World) (events : List Passed) → PassShownFrom old events → 
     (from : Files) × IsImage old.now.directory from × (opening : JobTable) × Shows from opening × IsTableAfter opening events table
 come_of old [] pass image is table shows = (image, is, table, shows, refl)
 come_of old (event ∷ later) pass image is table shows =
-    let later_of : (from : Files) × IsImage event.left.now.directory from × (opening : JobTable) × Shows from opening × IsTableAfter opening later table =
+    let later_of : (from : Files) × IsImage event.left.now.directory from × (opening : JobTable) × Shows from opening
+    × IsTableAfter opening later table =
     come_of event.left later pass.1 image is table shows in
     let here : ComesOf event.effect old later_of.2 =
     comes_of event.effect old event.left pass.0 later_of.0 later_of.1 later_of.2 later_of.3 in (
@@ -94,6 +95,7 @@ pub tables_after : (opening : JobTable) (events : List Passed) (old : World) →
     PassShownFrom old events → (image : Files) → IsImage (world_after old events).now.directory image → (table : JobTable) →
     Shows image table → IsTableAfter opening events table
 tables_after opening events old each pass image is table shows =
-    let of : (from : Files) × IsImage old.now.directory from × (opening : JobTable) × Shows from opening × IsTableAfter opening events table =
+    let of : (from : Files) × IsImage old.now.directory from × (opening : JobTable) × Shows from opening
+    × IsTableAfter opening events table =
     come_of old events pass image is table shows in
     subst (λ (t : JobTable). IsTableAfter t events table) (one_table of.0 of.2 opening of.3 (each of.0 of.1)) of.4

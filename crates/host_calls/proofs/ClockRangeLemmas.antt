@@ -12,5 +12,7 @@ second_tested (pos second) is = let to : pos second ≤ℤ LAST_SECOND = is.high
 second_tested (negsuc second) is = let from : pos 0 ≤ℤ negsuc second = is.low in grind (arith, ints)
 
 pub second_is : (second : ℤ) → is_clock_second second ≡ true → IsClockSecond second
-second_is (pos second) is = let at_most : second ≤ unsigned_abs LAST_SECOND = grind (arith, nat_tests) in record { low = grind (arith, ints); high = grind (arith, ints) }
+second_is (pos second) is =
+    let at_most : second ≤ unsigned_abs LAST_SECOND = grind (arith, nat_tests) in
+    record { low = grind (arith, ints); high = grind (arith, ints) }
 second_is (negsuc second) is = cc

@@ -17,39 +17,52 @@ all_are_some [] durable = refl
 all_are_some (change ∷ older) durable = (names_after older durable, all_are_some older durable, inr refl)
 
 -- a choice of two values, changed
-option_map-cond : {X Y : Type 0} (f : X → Y) (b : Bool) (first : X) (other : Option X) → cond b (Some (f first)) (option_map f other) ≡ option_map f (cond b (Some first) other)
+option_map-cond : {X Y : Type 0} (f : X → Y) (b : Bool) (first : X) (other : Option X)
+    → cond b (Some (f first)) (option_map f other) ≡ option_map f (cond b (Some first) other)
 option_map-cond f true first other = refl
 option_map-cond f false first other = refl
 
 -- what a list of entries gives at a name, where the values are changed
-find-map : {X Y : Type 0} (f : X → Y) (list : List (List ℕ × X)) (name : List ℕ) → find name_cmp name (map (λ entry. (entry.0, f entry.1)) list) ≡ option_map f (find name_cmp name list)
+find-map : {X Y : Type 0} (f : X → Y) (list : List (List ℕ × X)) (name : List ℕ)
+    → find name_cmp name (map (λ entry. (entry.0, f entry.1)) list) ≡ option_map f (find name_cmp name list)
 find-map f [] name = refl
-find-map f (entry ∷ others) name = ap (cond (eq_by_cmp name_cmp name entry.0) (Some (f entry.1))) (find-map f others name) ∙ option_map-cond f (eq_by_cmp name_cmp name entry.0) entry.1 (find name_cmp name others)
+find-map f (entry ∷ others) name = ap (cond (eq_by_cmp name_cmp name entry.0) (Some (f entry.1))) (find-map f others name)
+    ∙ option_map-cond f (eq_by_cmp name_cmp name entry.0) entry.1 (find name_cmp name others)
 
 -- what the files of a directory read as at a name
-pub get-files_of : (body : ℕ → Body) (names : Names) (name : List ℕ) → finite.get (files_of body names) name ≡ option_map (λ number. (body number).bytes) (finite.get names name)
+pub get-files_of : (body : ℕ → Body) (names : Names) (name : List ℕ)
+    → finite.get (files_of body names) name ≡ option_map (λ number. (body number).bytes) (finite.get names name)
 unfolding files_of
-get-files_of body names name = get-from_entries nat_list_cmp_total _ name ∙ find-map (λ number. (body number).bytes) (entries names) name ∙ ap (option_map _) (sym (get-entries names name))
+get-files_of body names name = get-from_entries nat_list_cmp_total _ name ∙ find-map (λ number. (body number).bytes) (entries names) name
+    ∙ ap (option_map _) (sym (get-entries names name))
 
 -- two names are equal, or the order tells them apart
 pub eq_by_cmp-same : (name : List ℕ) → eq_by_cmp name_cmp name name ≡ true
 eq_by_cmp-same name = is_eq-slice_cmp name name ∙ (bytes_eq-Decides name name).1 refl
 
 pub eq_by_cmp-other : (name other : List ℕ) → ¬ (other ≡ name) → eq_by_cmp name_cmp other name ≡ false
-eq_by_cmp-other name other differ = is_eq-slice_cmp other name ∙ false_from_ne_true _ (λ same. differ ((bytes_eq-Decides other name).0 same))
+eq_by_cmp-other name other differ = is_eq-slice_cmp other name
+    ∙ false_from_ne_true _ (λ same. differ ((bytes_eq-Decides other name).0 same))
 
 module _ {X : Type 0} where
-  pub get-insert_same : (files : FinMap name_cmp X) (name : List ℕ) (value : X) → finite.get (finite.insert files name value) name ≡ Some value
-  get-insert_same files name value = get-insert nat_list_cmp_total files name value name ∙ ap (λ b. cond b (Some value) (finite.get files name)) (eq_by_cmp-same name)
+  pub get-insert_same : (files : FinMap name_cmp X) (name : List ℕ) (value : X)
+      → finite.get (finite.insert files name value) name ≡ Some value
+  get-insert_same files name value = get-insert nat_list_cmp_total files name value name
+      ∙ ap (λ b. cond b (Some value) (finite.get files name)) (eq_by_cmp-same name)
 
-  pub get-insert_other : (files : FinMap name_cmp X) (name other : List ℕ) (value : X) → ¬ (other ≡ name) → finite.get (finite.insert files name value) other ≡ finite.get files other
-  get-insert_other files name other value differ = get-insert nat_list_cmp_total files name value other ∙ ap (λ b. cond b (Some value) (finite.get files other)) (eq_by_cmp-other name other differ)
+  pub get-insert_other : (files : FinMap name_cmp X) (name other : List ℕ) (value : X) → ¬ (other ≡ name)
+      → finite.get (finite.insert files name value) other ≡ finite.get files other
+  get-insert_other files name other value differ = get-insert nat_list_cmp_total files name value other
+      ∙ ap (λ b. cond b (Some value) (finite.get files other)) (eq_by_cmp-other name other differ)
 
   pub get-remove_same : (files : FinMap name_cmp X) (name : List ℕ) → finite.get (finite.remove files name) name ≡ None
-  get-remove_same files name = get-remove nat_list_cmp_total files name name ∙ ap (λ b. cond b None (finite.get files name)) (eq_by_cmp-same name)
+  get-remove_same files name = get-remove nat_list_cmp_total files name name
+      ∙ ap (λ b. cond b None (finite.get files name)) (eq_by_cmp-same name)
 
-  pub get-remove_other : (files : FinMap name_cmp X) (name other : List ℕ) → ¬ (other ≡ name) → finite.get (finite.remove files name) other ≡ finite.get files other
-  get-remove_other files name other differ = get-remove nat_list_cmp_total files name other ∙ ap (λ b. cond b None (finite.get files other)) (eq_by_cmp-other name other differ)
+  pub get-remove_other : (files : FinMap name_cmp X) (name other : List ℕ) → ¬ (other ≡ name)
+      → finite.get (finite.remove files name) other ≡ finite.get files other
+  get-remove_other files name other differ = get-remove nat_list_cmp_total files name other
+      ∙ ap (λ b. cond b None (finite.get files other)) (eq_by_cmp-other name other differ)
 
   -- two maps that answer alike at each name are equal
   pub same_names : (first second : FinMap name_cmp X) → ((name : List ℕ) → finite.get first name ≡ finite.get second name) → first ≡ second
@@ -72,26 +85,33 @@ pub reading_is_image : (directory : Directory) → IsImage directory (reading_of
 reading_is_image directory = record {
   names = names_of directory;
   chosen = all_are_some directory.pending directory.durable;
-  each = λ name. rw (get-files_of directory.body (names_of directory) name) (MayHoldAt-files_of directory.body (finite.get (names_of directory) name));
+  each = λ name.
+      rw (get-files_of directory.body (names_of directory) name) (MayHoldAt-files_of directory.body (finite.get (names_of directory) name));
 }
 
 -- the reading of a settled directory is that of before
 pub reading_of-settled : (directory : Directory) → reading_of (settled directory) ≡ reading_of directory
-reading_of-settled directory = same_names _ _ (λ name. get-files_of _ (names_of directory) name ∙ sym (get-files_of directory.body (names_of directory) name))
+reading_of-settled directory =
+    same_names _ _ (λ name. get-files_of _ (names_of directory) name ∙ sym (get-files_of directory.body (names_of directory) name))
 
 -- two lists are equal where they are as long and have the same at each place
-same_places : (first second : List ℕ) → length first ≡ length second → ((place : ℕ) → slice_index first place ≡ slice_index second place) → first ≡ second
+same_places : (first second : List ℕ) → length first ≡ length second
+    → ((place : ℕ) → slice_index first place ≡ slice_index second place) → first ≡ second
 same_places first second counted alike = ext_get_or 0 first second counted (λ place inside. alike place)
 
 -- what is at a name of settled bodies is what they read as
-settled_holds : (bodies : ℕ → Body) (held : Option ℕ) (holds : Option (List ℕ)) → MayHoldAt (λ number. durable_body (bodies number)) held holds → holds ≡ option_map (λ number. (bodies number).bytes) held
+settled_holds : (bodies : ℕ → Body) (held : Option ℕ) (holds : Option (List ℕ))
+    → MayHoldAt (λ number. durable_body (bodies number)) held holds → holds ≡ option_map (λ number. (bodies number).bytes) held
 settled_holds bodies None None is = refl
 settled_holds bodies None (Some bytes) is = absurd is
 settled_holds bodies (Some number) None is = absurd is
-settled_holds bodies (Some number) (Some bytes) is = ap Some (same_places bytes (bodies number).bytes is.counted (λ place. is.durable place refl))
+settled_holds bodies (Some number) (Some bytes) is =
+    ap Some (same_places bytes (bodies number).bytes is.counted (λ place. is.durable place refl))
 
 -- a settled directory has its reading as its only image
 pub settled_image : (directory : Directory) (image : Files) → IsImage (settled directory) image → image ≡ reading_of directory
 settled_image directory image is = same_names _ _ (λ name.
-    let holds : MayHoldAt (settled directory).body (finite.get (names_of directory) name) (finite.get image name) = subst (λ names. MayHoldAt (settled directory).body (finite.get names name) (finite.get image name)) is.chosen (is.each name) in
-    settled_holds directory.body (finite.get (names_of directory) name) (finite.get image name) holds ∙ sym (get-files_of directory.body (names_of directory) name))
+    let holds : MayHoldAt (settled directory).body (finite.get (names_of directory) name) (finite.get image name) =
+    subst (λ names. MayHoldAt (settled directory).body (finite.get names name) (finite.get image name)) is.chosen (is.each name) in
+    settled_holds directory.body (finite.get (names_of directory) name) (finite.get image name) holds
+    ∙ sym (get-files_of directory.body (names_of directory) name))

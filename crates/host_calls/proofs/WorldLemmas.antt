@@ -6,7 +6,8 @@ use Rattle.host_calls.specs.Directory.{Directory, Files}
 use Rattle.host_calls.specs.World.{Moment, World, moments, moment, AnyMoment, AllMoments, Leaves, MayLeave, HasEachImage, LeavesOnly, IsWithin, WithinCall, FileCall, TimePasses}
 
 -- what holds of each moment of two lists holds of each of both together
-pub AtEach-append : (P : Moment → Type 0) (first second : List Moment) → AllMoments P first → AllMoments P second → AllMoments P (first ++ second)
+pub AtEach-append : (P : Moment → Type 0) (first second : List Moment) → AllMoments P first → AllMoments P second
+    → AllMoments P (first ++ second)
 AtEach-append P [] second all all_second = all_second
 AtEach-append P (here ∷ others) second all all_second = (all.0, AtEach-append P others second all.1 all_second)
 
@@ -16,7 +17,8 @@ AtEach-weaker P Q [] weaker all = tt
 AtEach-weaker P Q (here ∷ others) weaker all = (weaker here all.0, AtEach-weaker P Q others weaker all.1)
 
 -- what a crash leaves still has a weaker property
-pub leaves_weaker : (P Q : Files → List Handed → Type 0) (old new : World) → ((image : Files) (handed : List Handed) → P image handed → Q image handed) → LeavesOnly P old new → LeavesOnly Q old new
+pub leaves_weaker : (P Q : Files → List Handed → Type 0) (old new : World)
+    → ((image : Files) (handed : List Handed) → P image handed → Q image handed) → LeavesOnly P old new → LeavesOnly Q old new
 leaves_weaker P Q old new weaker leaves = record {
   more = leaves.more;
   run = leaves.run;
@@ -28,7 +30,8 @@ pub leaves_none : (P : Files → List Handed → Type 0) (old new : World) → n
 leaves_none P old new same = record { more = []; run = ap moments same; each = tt }
 
 -- one run after another
-pub leaves_then : (P : Files → List Handed → Type 0) (first second third : World) → LeavesOnly P first second → LeavesOnly P second third → LeavesOnly P first third
+pub leaves_then : (P : Files → List Handed → Type 0) (first second third : World) → LeavesOnly P first second → LeavesOnly P second third
+    → LeavesOnly P first third
 leaves_then P first second third before after = record {
   more = after.more ++ before.more;
   run = after.run ∙ ap (λ rest. after.more ++ rest) before.run ∙ sym (append_assoc after.more before.more (moments first));
@@ -36,9 +39,12 @@ leaves_then P first second third before after = record {
 }
 
 -- one call after a run: it is enough that what the call lets a crash leave has P
-pub call_then : {T : Type 0} (P : Files → List Handed → Type 0) (done part : Directory → Directory → Type 0) (first second third : World) (result : Result T HostFault) → LeavesOnly P first second → FileCall done part second third result → ((image : Files) → IsWithin done second.now.directory image → P image second.now.handed) → LeavesOnly P first third
+pub call_then : {T : Type 0} (P : Files → List Handed → Type 0) (done part : Directory → Directory → Type 0)
+    (first second third : World) (result : Result T HostFault) → LeavesOnly P first second → FileCall done part second third result
+    → ((image : Files) → IsWithin done second.now.directory image → P image second.now.handed) → LeavesOnly P first third
 call_then P done part first second third result before call within =
-    let weaker : (image : Files) (handed : List Handed) → WithinCall done second.now image handed → P image handed = λ image handed is. subst (P image) (sym is.1) (within image is.0) in
+    let weaker : (image : Files) (handed : List Handed) → WithinCall done second.now image handed
+    → P image handed = λ image handed is. subst (P image) (sym is.1) (within image is.0) in
     leaves_then P first second third before (leaves_weaker (WithinCall done second.now) P second third weaker call.leaves)
 
 -- the first moments of a list, where what follows is cut off
@@ -65,20 +71,28 @@ AtSome-right P (here ∷ others) second some = inr (AtSome-right P others second
 
 -- how far the moments of a world reach
 run_counted : (old new : World) (more : List Moment) → moments new ≡ more ++ moments old → moment new ≡ length more + moment old
-run_counted old new more run = let counted : length (moments new) ≡ length (more ++ moments old) = ap length run in omega (arith, counted, length-append more (moments old))
+run_counted old new more run =
+    let counted : length (moments new) ≡ length (more ++ moments old) = ap length run in
+    omega (arith, counted, length-append more (moments old))
 
 -- what could be since an earlier moment, by the moments of a run
-could_run : (old new : World) (more : List Moment) → moments new ≡ more ++ moments old → (since : ℕ) → since ≤ moment old → take (moment new + 1 - since) (moments new) ≡ more ++ take (moment old + 1 - since) (moments old)
+could_run : (old new : World) (more : List Moment) → moments new ≡ more ++ moments old → (since : ℕ) → since ≤ moment old
+    → take (moment new + 1 - since) (moments new) ≡ more ++ take (moment old + 1 - since) (moments old)
 could_run old new more run since early =
     let counted : moment new ≡ length more + moment old = run_counted old new more run in
     ap (take (moment new + 1 - since)) run ∙ take_prefix (moment new + 1 - since) (moment old + 1 - since) more (moments old) (omega arith)
 
 -- What could be since a moment, after a run, is what could be since it before the run, or since the run's start after it.
-pub could_law : (old new : World) (more : List Moment) → moments new ≡ more ++ moments old → (since : ℕ) → since ≤ moment old → (image : Files) (handed : List Handed) → (MayLeave new since image handed → MayLeave old since image handed ⊎ MayLeave new (moment old) image handed) × (MayLeave old since image handed ⊎ MayLeave new (moment old) image handed → MayLeave new since image handed)
+pub could_law : (old new : World) (more : List Moment) → moments new ≡ more ++ moments old
+    → (since : ℕ) → since ≤ moment old → (image : Files) (handed : List Handed)
+    → (MayLeave new since image handed → MayLeave old since image handed ⊎ MayLeave new (moment old) image handed)
+    × (MayLeave old since image handed ⊎ MayLeave new (moment old) image handed → MayLeave new since image handed)
 could_law old new more run since early image handed =
     let P : Moment → Type 0 = Leaves image handed in
-    let whole : take (moment new + 1 - since) (moments new) ≡ more ++ take (moment old + 1 - since) (moments old) = could_run old new more run since early in
-    let from_start : take (moment new + 1 - moment old) (moments new) ≡ more ++ take (moment old + 1 - moment old) (moments old) = could_run old new more run (moment old) (omega arith) in
+    let whole : take (moment new + 1 - since) (moments new) ≡ more ++ take (moment old + 1 - since) (moments old) =
+    could_run old new more run since early in
+    let from_start : take (moment new + 1 - moment old) (moments new) ≡ more ++ take (moment old + 1 - moment old) (moments old) =
+    could_run old new more run (moment old) (omega arith) in
     let one : moment old + 1 - moment old ≡ suc zero = omega arith in
     let rest : moment old + 1 - since ≡ suc (moment old - since) = omega arith in (
       λ some. elim (AtSome-append P more _ (subst (AnyMoment P) whole some)) [
@@ -101,10 +115,12 @@ AtEach-some P Q [] all some = absurd some
 AtEach-some P Q (here ∷ others) all some = elim some [ inl at ↦ (here, all.0, at) | inr later ↦ AtEach-some P Q others all.1 later ]
 
 -- what a crash since the start of a run could leave was an image of its start or has P
-pub could_only : (P : Files → List Handed → Type 0) (old new : World) → LeavesOnly P old new → (image : Files) (handed : List Handed) → MayLeave new (moment old) image handed → Leaves image handed old.now ⊎ P image handed
+pub could_only : (P : Files → List Handed → Type 0) (old new : World) → LeavesOnly P old new → (image : Files) (handed : List Handed)
+    → MayLeave new (moment old) image handed → Leaves image handed old.now ⊎ P image handed
 could_only P old new leaves image handed could =
     let Q : Moment → Type 0 = Leaves image handed in
-    let from_start : take (moment new + 1 - moment old) (moments new) ≡ leaves.more ++ take (moment old + 1 - moment old) (moments old) = could_run old new leaves.more leaves.run (moment old) (omega arith) in
+    let from_start : take (moment new + 1 - moment old) (moments new) ≡ leaves.more ++ take (moment old + 1 - moment old) (moments old) =
+    could_run old new leaves.more leaves.run (moment old) (omega arith) in
     let one : moment old + 1 - moment old ≡ suc zero = omega arith in
     elim (AtSome-append Q leaves.more _ (subst (AnyMoment Q) from_start could)) [
       | inl newer ↦ let found : (at : Moment) × HasEachImage P at × Q at = AtEach-some (HasEachImage P) Q leaves.more leaves.each newer in
@@ -133,5 +149,6 @@ goes_on_then first second third before after = record {
   asked = after.asked ∙ before.asked;
   handed = after.handed ∙ before.handed;
   leaves = leaves_then (λ image handed. handed ≡ first.now.handed) first second third before.leaves
-      (leaves_weaker (λ image handed. handed ≡ second.now.handed) (λ image handed. handed ≡ first.now.handed) second third (λ image handed is. is ∙ before.handed) after.leaves);
+      (leaves_weaker (λ image handed. handed ≡ second.now.handed) (λ image handed. handed ≡ first.now.handed) second third
+      (λ image handed is. is ∙ before.handed) after.leaves);
 }

@@ -16,7 +16,8 @@ zip_push R (one ∷ xs) (other ∷ ys) x y zip is = (zip.0, zip_push R xs ys x y
 
 pub concat_push : (lines : List (List ℕ)) (line : List ℕ) → concat (lines ++ line ∷ []) ≡ concat lines ++ line
 concat_push [] line = append-nil line
-concat_push (first ∷ lines) line = ap (λ (rest : List ℕ). first ++ rest) (concat_push lines line) ∙ sym (append_assoc first (concat lines) line)
+concat_push (first ∷ lines) line = ap (λ (rest : List ℕ). first ++ rest) (concat_push lines line)
+    ∙ sym (append_assoc first (concat lines) line)
 
 -- one more row has one more line
 pub one_more : (zone : Zone) (rows : List Row) (index : ℕ) (or : Row) (text line more : List ℕ) → index < length rows

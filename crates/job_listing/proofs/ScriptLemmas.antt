@@ -12,14 +12,16 @@ use Rattle.tool_output.specs.Sinks.{IsPut, IsPutInPart, SinkAt}
 use Rattle.job_listing.specs.Scripts.{PutsScripts}
 
 -- scripts of two lists of numbers
-scripts_join : (table : JobTable) (prefix later : List ℕ) → scripts_of table (prefix ++ later) ≡ scripts_of table prefix ++ scripts_of table later
+scripts_join : (table : JobTable) (prefix later : List ℕ)
+    → scripts_of table (prefix ++ later) ≡ scripts_of table prefix ++ scripts_of table later
 scripts_join table [] later = refl
 scripts_join table (number ∷ prefix) later =
     ap (λ (rest : List ℕ). script_in (entry_at table number) ++ rest) (scripts_join table prefix later)
     ∙ sym (append_assoc (script_in (entry_at table number)) (scripts_of table prefix) (scripts_of table later))
 
 -- nothing was put
-pub none_put : (files output : Bool) (kept : Kept) (old : World) (was : SinkAt) (done : Unit {0}) → PutsScripts files output kept [] old old was was (Ok done)
+pub none_put : (files output : Bool) (kept : Kept) (old : World) (was : SinkAt) (done : Unit {0})
+    → PutsScripts files output kept [] old old was was (Ok done)
 none_put files output kept old was done = record {
   looks = λ known. refl;
   comes = tt;
@@ -45,7 +47,8 @@ module _ (files output : Bool) (kept : Kept) (numbers : List ℕ) (index or : �
     later = omega (arith, first.later, second.later);
     puts = λ known shown table current.
         let before : IsPut (scripts_of table (take index numbers)) was mid = first.puts known shown table current in
-        let after : IsPut (scripts_of table (get_or numbers index or ∷ [])) mid is = second.puts known shown table (still_current table known current) in
+        let after : IsPut (scripts_of table (get_or numbers index or ∷ [])) mid is =
+        second.puts known shown table (still_current table known current) in
         let prefix : take (index + 1) numbers ≡ take index numbers ++ get_or numbers index or ∷ [] = take_more numbers index or inside in
         record {
           content =
@@ -71,7 +74,8 @@ module _ (files output : Bool) (kept : Kept) (numbers : List ℕ) (index or : �
       ∙ ap (λ (some : List ℕ). scripts_of table some ++ later) (take_more numbers index or inside)
       ∙ ap (λ (text : List ℕ). text ++ later) (scripts_join table (take index numbers) (get_or numbers index or ∷ [])) in
       let split : before ++ one ≡ (before ++ take count one) ++ drop count one =
-      ap (λ (text : List ℕ). before ++ text) (sym (take-append-drop count one)) ∙ sym (append_assoc before (take count one) (drop count one)) in (
+      ap (λ (text : List ℕ). before ++ text) (sym (take-append-drop count one))
+      ∙ sym (append_assoc before (take count one) (drop count one)) in (
         drop count one ++ later,
         all ∙ ap (λ (text : List ℕ). text ++ later) split ∙ append_assoc (before ++ take count one) (drop count one) later,
       )
@@ -86,14 +90,16 @@ module _ (files output : Bool) (kept : Kept) (numbers : List ℕ) (index or : �
         content =
             after.content
             ∙ ap (λ (content : List ℕ). content ++ take after.count (scripts_of table (get_or numbers index or ∷ []))) before.content
-            ∙ append_assoc was.content (scripts_of table (take index numbers)) (take after.count (scripts_of table (get_or numbers index or ∷ [])))
+            ∙ append_assoc was.content (scripts_of table (take index numbers))
+            (take after.count (scripts_of table (get_or numbers index or ∷ [])))
             ∙ ap (λ (text : List ℕ). was.content ++ text) (sym (take-append_seam prefix rest.0))
             ∙ ap (λ (text : List ℕ). was.content ++ take (length prefix) text) (sym rest.1);
         later = omega (arith, before.later, after.later);
       }
 
   -- and a prefix of the next one, where it stopped
-  pub stopped_here : (stopped : CommandError) → PutsScripts files output kept (get_or numbers index or ∷ []) between new mid is (Err stopped)
+  pub stopped_here : (stopped : CommandError)
+      → PutsScripts files output kept (get_or numbers index or ∷ []) between new mid is (Err stopped)
       → PutsScripts files output kept numbers old new was is (Err stopped)
   stopped_here stopped second = record {
     looks = λ known. second.looks known ∙ first.looks known;
@@ -110,4 +116,5 @@ module _ (files output : Bool) (kept : Kept) (numbers : List ℕ) (index or : �
       → PutsScripts files output kept numbers old new was is result
   stopped_by_mark stopped (Ok value) same second = absurd same
   stopped_by_mark stopped (Err other) same second =
-      subst (λ (cause : CommandError). PutsScripts files output kept numbers old new was is (Err cause)) (sym same) (stopped_here stopped second)
+      subst (λ (cause : CommandError). PutsScripts files output kept numbers old new was is (Err cause)) (sym same)
+      (stopped_here stopped second)

@@ -34,7 +34,8 @@ spelled_umask a b c one two three = record {
 }
 
 -- three octal digits and a newline are the rest of the line of the umask
-pub umask_read : (bytes rest tail : List ℕ) (end : Option (Bor (List ℕ))) → bytes ≡ codes "umask 0" ++ rest → 4 ≤ length rest → tail ≡ drop 3 rest
+pub umask_read : (bytes rest tail : List ℕ) (end : Option (Bor (List ℕ))) → bytes ≡ codes "umask 0" ++ rest
+    → 4 ≤ length rest → tail ≡ drop 3 rest
     → (48 ≤ get_or rest 0 0) × (get_or rest 0 0 < 56) → (48 ≤ get_or rest 1 0) × (get_or rest 1 0 < 56)
     → (48 ≤ get_or rest 2 0) × (get_or rest 2 0 < 56)
     → MatchOption end ((more : List ℕ) → tail ≢ (10 ∷ []) ++ more) (λ more. tail ≡ (10 ∷ []) ++ more.now)

@@ -13,7 +13,8 @@ hold_both true b first second = second
 hold_both false b first second = absurd (cc first)
 
 -- bytes that pass each at its place
-pub pass_by_place : (passes : ℕ → Bool) (u : List ℕ) → ((k : ℕ) → k < length u → IsTrue (passes (get_or u k 0))) → IsTrue (list_all passes u)
+pub pass_by_place : (passes : ℕ → Bool) (u : List ℕ) → ((k : ℕ) → k < length u → IsTrue (passes (get_or u k 0)))
+    → IsTrue (list_all passes u)
 pass_by_place passes [] each = refl
 pass_by_place passes (x ∷ xs) each =
     hold_both (passes x) (list_all passes xs) (each 0 (omega arith))

@@ -40,7 +40,8 @@ notices_are_no_jobs of (Noted job ∷ later) given (first, rest, one, hands, bot
 notices_are_no_jobs of (Dropped number ∷ later) given (first, rest, one, hands, both) =
     ap of_jobs (both ∙ ap (λ (l : List Handed). l ++ rest) one) ∙ notices_are_no_jobs of later rest hands
 
-notices_by_now : (of : Mailing) (notes : List Note) (image : Files) (given : List Handed) → SendsNoticesByNow of notes image given → of_jobs given ≡ []
+notices_by_now : (of : Mailing) (notes : List Note) (image : Files) (given : List Handed)
+    → SendsNoticesByNow of notes image given → of_jobs given ≡ []
 notices_by_now of notes image given by_now = elim by_now [
   | inl all ↦ notices_are_no_jobs of notes given all
   | inr lacks ↦ notices_are_no_jobs of lacks.earlier given lacks.hands

@@ -11,7 +11,8 @@ use Rattle.later_day.specs.LaterEffects.{is_of_job, jobs_at, of_jobs, only_jobs}
 pub jobs_stay : (given : List Handed) → All (λ handed. is_of_job handed ≡ true) given → of_jobs given ≡ given
 jobs_stay [] all = refl
 jobs_stay (handed ∷ others) all =
-    ap (λ (test : Bool). cond test (handed ∷ of_jobs others) (of_jobs others)) (All-head (λ handed. is_of_job handed ≡ true) handed others all)
+    ap (λ (test : Bool). cond test (handed ∷ of_jobs others) (of_jobs others))
+    (All-head (λ handed. is_of_job handed ≡ true) handed others all)
     ∙ ap (λ (l : List Handed). handed ∷ l) (jobs_stay others (All-tail (λ handed. is_of_job handed ≡ true) handed others all))
 
 pub others_go : (handed : Handed) (given : List Handed) → is_of_job handed ≡ false → of_jobs (handed ∷ given) ≡ of_jobs given

@@ -155,5 +155,6 @@ later_outcomes_keep_their_promise first outcomes done = record {
   notices = λ whole.
       notices_are_handed_once (later_spool first) (later_spool (later_machine_after first outcomes)) whole
       (mail_events first first outcomes no_event done);
-  minutes = all_apart first outcomes (no_minute_comes_twice (map cron_passed outcomes) (later_spool first) (cron_pass_from first outcomes done));
+  minutes =
+      all_apart first outcomes (no_minute_comes_twice (map cron_passed outcomes) (later_spool first) (cron_pass_from first outcomes done));
 }

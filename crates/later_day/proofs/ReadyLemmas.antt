@@ -59,7 +59,8 @@ module _ (program : List ℕ) (old new : LaterMachine) (ready : IsLaterReady pro
       post_stays (children_stay given.host.left.children) post
   post_after_day (Turn now load) (reports.Turn turned) turns post = post_stays turns.kept post
   post_after_day (Reboot pick fuse) reports.Rebooted up post = (
-    subst (λ (after : PostState). AreChildren (machine_session new.at).children after.kids) (sym post) (no_kids (machine_session new.at).children),
+    subst (λ (after : PostState). AreChildren (machine_session new.at).children after.kids) (sym post)
+        (no_kids (machine_session new.at).children),
     ap (λ (after : PostState). after.program) post ∙ ready.of_program,
   )
   post_after_day (Command words caller input now) (reports.Turn turned) happens post = absurd happens

@@ -109,7 +109,8 @@ pub given_are_of_jobs : (files : Files) (table : JobTable) (steps prefix : List 
     of_jobs given ≡ given
 given_are_of_jobs files table steps prefix given shows legal follow one is by_now = elim one [
   | inl starts ↦
-      let none : given ≡ [] = hand_nothing_by_now table prefix given (first_start_nothing prefix is.0 (subst StartNothing is.1 starts)) by_now in
+      let none : given ≡ [] =
+      hand_nothing_by_now table prefix given (first_start_nothing prefix is.0 (subst StartNothing is.1 starts)) by_now in
       ap of_jobs none ∙ sym none
   | inr accepts ↦
       let good : IsGood table steps false given (after_steps table prefix) =

@@ -33,7 +33,8 @@ day_effect event report old new happened =
     let done : IsDoneOn old.at outcome = record { happens = happened.happens; by_its_steps = found.1; moved = found.2 } in
     (OfTable found.0, found.1, (day_outcomes_pass old.at outcome done).later)
 
-mail_effect : (report : PostReport) (old new : LaterMachine) → IsSessionOfMail report old new → LaterEffects Post (known.Post report) old new
+mail_effect : (report : PostReport) (old new : LaterMachine) → IsSessionOfMail report old new
+    → LaterEffects Post (known.Post report) old new
 mail_effect report old new posted =
     let passes : PassesMail (later_spool old) (later_spool new) =
     mail_sessions_pass (post_at old) (post_at new) report.end report.sent posted.posts in

@@ -1,5 +1,12 @@
+pub mod Crontabs
 pub mod Descriptions
 pub mod ExitCodes
+pub mod Launches
 pub mod Locks
 pub mod Marks
+pub mod NamedRuns
+pub mod SpoolsOfTools
+pub mod Submissions
 pub mod ToolEnds
+pub mod ToolRuns
+pub mod YoungFiles

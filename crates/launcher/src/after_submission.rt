@@ -1,77 +1,99 @@
-//! What follows an accepted submission: an atd is requested, and a terminal is warned where none will run the job.
+//! What follows an accepted submission: a terminal is warned where no atd will run the job.
+ghost use Rattle.std.specs.Prelude.{OnOk};
+ghost use Rattle.system_calls.specs.Calls.{Continues};
+
 use crate::held_locks::is_locked;
-use crate::machine_daemon::{ask_for_daemon, starts_daemons};
-use at_words::{ToolRequest, request};
 use caller_environment::ToolName;
-use caller_spool::{
-    CallingUser, DAEMON_LOCK, ToolSpool, is_directory_there, path_within, paths_of,
+use caller_rules::{
+    CallingUser, DAEMON_LOCK, SpoolPaths, ToolSpool, is_directory_there, path_within, paths_of,
+    starts_daemons,
 };
-use std::alloc::AllocError;
-use std::fs;
-use std::io::IsTerminal;
-use std::os::unix::fs::MetadataExt;
+use std::alloc::{AllocError, Global};
+use system_calls::System;
 
-/// Whether the words of this tool submit a job.
-pub fn is_submission(rt: &HostRuntime, tool: ToolName, words: &[String]) -> bool {
-    match tool {
-        ToolName::Batch => true,
-        ToolName::At => matches!(request(rt.alloc(), words), Ok(ToolRequest::Submit { .. })),
-        _ => false,
-    }
-}
-
-/// Requests an atd of the caller's own spool, and warns where none will run the job.
-pub fn after_submission(
-    rt: &HostRuntime,
+/// Warns on a terminal where no atd will run the job.
+pub fn after_submission<S: System>(
+    system: &mut S,
+    alloc: Global,
     tool: ToolName,
     user: &CallingUser,
     spool: &ToolSpool,
 ) -> Result<(), AllocError> {
-    if spool.is_own {
-        ask_for_daemon(rt, user)?;
-    }
-    if rt.stderr().is_terminal() && !has_daemon(rt, user, spool)? {
-        warn(rt, tool, user, spool);
+    if system.is_terminal() && !has_daemon(system, alloc, user, spool)? {
+        warn(system, alloc, tool, user, spool)?;
     }
     Ok(())
 }
 
 // Whether an atd serves the spool, or the machine starts one.
-fn has_daemon(rt: &HostRuntime, user: &CallingUser, spool: &ToolSpool) -> Result<bool, AllocError> {
-    if spool.is_own && !user.is_root() && starts_daemons(rt) {
+fn has_daemon<S: System>(
+    system: &mut S,
+    alloc: Global,
+    user: &CallingUser,
+    spool: &ToolSpool,
+) -> Result<bool, AllocError> {
+    if spool.is_own && !user.is_root() && starts_daemons(system) {
         return Ok(true);
     }
-    let Some(paths) = paths_of(rt, spool.path.as_str())? else {
+    match paths_of(system, alloc, spool.path.as_str())? {
+        Some(paths) => is_served(system, alloc, &paths),
+        None => Ok(true),
+    }
+}
+
+// Whether an atd holds one of its locks.
+fn is_served<S: System>(
+    system: &mut S,
+    alloc: Global,
+    paths: &SpoolPaths,
+) -> Result<bool, AllocError>
+    ensures { OnOk result (Continues (S.trace system.old) (S.trace system.new)) }
+{
+    let within = path_within(alloc, paths.spool.as_str(), DAEMON_LOCK)?;
+    if is_path_locked(system, alloc, within.as_str())? {
         return Ok(true);
-    };
-    let within = path_within(rt, paths.spool.as_str(), DAEMON_LOCK)?;
-    Ok(is_path_locked(rt, within.as_str())? || is_path_locked(rt, paths.outputs.as_str())?)
+    }
+    is_path_locked(system, alloc, paths.outputs.as_str())
 }
 
 // Whether any process holds a lock of what has this path.
-fn is_path_locked(rt: &HostRuntime, path: &str) -> Result<bool, AllocError> {
-    match fs::metadata(rt, path) {
-        Ok(found) => is_locked(rt, found.ino()),
-        Err(_) => Ok(false),
+fn is_path_locked<S: System>(system: &mut S, alloc: Global, path: &str) -> Result<bool, AllocError>
+    ensures { OnOk result (Continues (S.trace system.old) (S.trace system.new)) }
+{
+    match system.status(path) {
+        Some(found) => is_locked(system, alloc, found.inode),
+        None => Ok(false),
     }
 }
 
-fn warn(rt: &HostRuntime, tool: ToolName, user: &CallingUser, spool: &ToolSpool) {
-    let start = start_command(rt, user, spool);
+fn warn<S: System>(
+    system: &mut S,
+    alloc: Global,
+    tool: ToolName,
+    user: &CallingUser,
+    spool: &ToolSpool,
+) -> Result<(), AllocError>
+    ensures { OnOk result (Continues (S.trace system.old) (S.trace system.new)) }
+{
+    let start = start_command(system, user, spool);
     let name = tool.as_str();
-    let _ = if spool.is_own {
-        eprintln!(rt; "{name}: no atd runs, so the job waits: start one by {start}")
+    let line = if spool.is_own {
+        format!(in alloc; "{name}: no atd runs, so the job waits: start one by {start}\n")?
     } else {
         let path = spool.path.as_str();
-        eprintln!(rt;
-            "{name}: no atd runs, so the job waits: start one by ATSPOOL='{path}' {start}"
-        )
+        format!(in alloc;
+            "{name}: no atd runs, so the job waits: start one by ATSPOOL='{path}' {start}\n"
+        )?
     };
+    system.write_error(line.as_str());
+    Ok(())
 }
 
 // How an atd of the spool is started.
-fn start_command(rt: &HostRuntime, user: &CallingUser, spool: &ToolSpool) -> &'static str {
-    if !spool.is_own || !is_directory_there(rt, "/run/systemd/system") {
+fn start_command<S: System>(system: &mut S, user: &CallingUser, spool: &ToolSpool) -> &'static str
+    ensures { Continues (S.trace system.old) (S.trace system.new) }
+{
+    if !spool.is_own || !is_directory_there(system, "/run/systemd/system") {
         "setsid -f atd >/dev/null"
     } else if user.is_root() {
         "systemctl start atd"

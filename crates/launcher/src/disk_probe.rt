@@ -1,5 +1,5 @@
 //! What keeps a directory from taking a file, found out by writing a block into it.
-use caller_spool::path_within;
+use caller_rules::path_within;
 use std::fs;
 use std::fs::OpenOptions;
 use std::io::{ErrorKind, Write};
@@ -12,7 +12,7 @@ const BLOCK: usize = 4096;
 
 /// Why a directory takes no file. None where it took one.
 pub fn refusal_of(rt: &HostRuntime, directory: &str) -> Option<ErrorKind> {
-    let path = path_within(rt, directory, PROBE).ok()?;
+    let path = path_within(rt.alloc(), directory, PROBE).ok()?;
     let mut options = OpenOptions::new();
     options.write(true).create_new(true).mode(0o600);
     match options.open(rt, path.as_str()) {

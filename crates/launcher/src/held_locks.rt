@@ -1,17 +1,22 @@
 //! Whether any process holds a lock of a file. The table is read in place of trying the lock: that could keep an atd from
 //! it that begins at the same moment.
 ghost use Rattle.std.specs.Prelude.{◌≡◌, IfOk, string_bytes};
-ghost use Rattle.launcher.specs.Locks.{field_ending, ends_so, has_lock, is_lock_of};
+ghost use Rattle.launcher.specs.Locks.{IsLockLookedUp, field_ending, ends_so, has_lock, is_lock_of};
 
 use std::alloc::{AllocError, Global};
-use std::fs;
+use system_calls::{FileRead, System};
+
+// A table is shorter.
+const LONGEST_TABLE: u64 = 67_108_864;
 
 /// Whether the kernel's table of locks has one of the file of this inode. One that can't be read counts as if it had.
-pub fn is_locked(rt: &HostRuntime, inode: u64) -> Result<bool, AllocError> {
-    let ending = field_ending(rt.alloc(), inode)?;
-    match fs::read(rt, "/proc/locks") {
-        Ok(table) => Ok(has_lock(table.as_slice(), ending.as_bytes())),
-        Err(_) => Ok(true),
+pub fn is_locked<S: System>(system: &mut S, alloc: Global, inode: u64) -> Result<bool, AllocError>
+    ensures { IfOk result (IsLockLookedUp inode (S.trace system.old) (S.trace system.new)) }
+{
+    let ending = field_ending(alloc, inode)?;
+    match system.read_file("/proc/locks", LONGEST_TABLE) {
+        FileRead::Whole(table) => Ok(has_lock(table.as_slice(), ending.as_bytes())),
+        _ => Ok(true),
     }
 }
 
@@ -23,6 +28,7 @@ fn field_ending(alloc: Global, inode: u64) -> Result<String, AllocError>
 }
 
 fn has_lock(table: &[u8], ending: &[u8]) -> bool
+    /// The table of locks has one on the file with this inode exactly if a field of a line ends with that inode.
     ensures { result ≡ has_lock table.now ending.now }
 {
     table

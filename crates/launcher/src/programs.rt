@@ -1,194 +1,202 @@
 //! Each tool over its spool, by the program that has it.
-ghost use Rattle.std.specs.Prelude.{◌≡◌, ◌<◌, IfOk};
+ghost use Rattle.std.specs.Prelude.{◌≡◌, ◌<◌, Bool, IfOk, map, string_bytes};
 ghost use Rattle.std.specs.Path.{IsAbsolute};
-ghost use Rattle.caller_environment.specs.declared.tool_name.ToolName.TheVariants.{Atstat};
+ghost use Rattle.launcher.specs.ExitCodes.{IsExitCode, IsExitCodeOf};
 ghost use Rattle.listing_text.specs.Cause.{status_of};
-ghost use Rattle.launcher.specs.ToolEnds.{IsToolEnd};
+ghost use Rattle.listing_text.specs.declared.cause.Cause.TheVariants.{Busy};
+ghost use Rattle.real_programs.specs.ProgramRuns.{exit_of};
+ghost use Rattle.caller_rules.specs.DaemonStarts.{begins_trim};
+ghost use Rattle.launcher.specs.ToolRuns.{IsToolRun, post_program_by, program_by, submission_program_by};
+ghost use Rattle.system_calls.specs.Calls.{Continues};
 
+use crate::clock_mark::warn_of_mark;
 use crate::lock_wait::lock_wait;
-use crate::note_trims::{asks_for_trim, has_option, trim_at_start};
-use crate::one_daemon::{DaemonLock, atd_lock, daemon_lock};
 use crate::refusal::refuse_tool;
-use crate::tool_end::ToolEnd;
+use crate::tool_run::ToolRun;
+use crate::young_notices::await_young_notices;
 use caller_environment::ToolName;
-use caller_spool::{Invoker, SpoolPaths, is_same_directory};
-use host_calls::{Name, Text};
-use listing_text::{Cause, Status};
-use process_input::take_directory;
+use caller_rules::{
+    SpoolPaths, ToolSpool, begins_trim, has_notes, is_daemon_run, is_endless, is_same_directory,
+};
+use host_calls::{Host, Inputs, Name, Readings, Sink, Text};
+use listing_text::Cause;
+use memory_host::MemoryHost;
+use process_input::{Invoker, take_directory};
 use real_programs::{
-    RealClock, real_clock, run_account_on_spool, run_at_on_spool, run_check_on_spool,
-    run_cron_on_spool, run_post_on_spool, run_stat_on_spool, run_trim_on_spool, watching_clock,
+    Program, ProgramExit, RealClock, RealDirectory, RealErrors, RealInput, RealOutput, SystemPlan,
+    Witnesses, real_clock, run_on_real_system, watching_clock,
 };
 use sequence_file::sequence_name;
 use start_journal::journal_name;
-use std::alloc::AllocError;
+use std::alloc::{AllocError, Global};
 use std::path::Path;
-use tool_output::Caller;
+use system_calls::System;
+use witnessed_host::{InputWitness, Witness};
 
-/// Does what the words of a tool request over its spool. The paths are those of the spool, where it exists.
-pub fn run_tool_on(
+/// Does what the words of a tool request over its spool, next to these witnesses. The paths are those of the spool, where
+/// it exists. The program runs once, unless another one keeps the tool from the spool.
+pub fn run_tool_on<S: System, W: Witness + Drop, V: InputWitness + Drop>(
     rt: &HostRuntime,
+    system: &mut S,
     tool: ToolName,
     words: &mut Vec<String>,
+    mails: bool,
     invoker: &Invoker,
-    spool: Text,
+    spool: &ToolSpool,
     paths: &Option<SpoolPaths>,
-) -> Result<ToolEnd, AllocError>
-    ensures { IfOk result (IsToolEnd tool) }
+    witnesses: Witnesses<W, V>,
+) -> Result<ToolRun<W, V>, AllocError>
+    ensures run { IfOk result (λ run. IsToolRun ⟦<RealDirectory<W> as Host>⟧ ⟦<MemoryHost as Host>⟧
+        ⟦<RealClock as Readings>⟧ ⟦<RealInput<V> as Inputs>⟧ ⟦<RealOutput as Sink>⟧ ⟦<RealErrors as Sink>⟧
+        tool (map string_bytes words.new.items) invoker.now.caller spool.now.path witnesses run.system run.exit) }
+    ensures code { IfOk result (λ run. IsExitCodeOf tool run.exit.code) }
+    ensures asked { Continues (S.trace system.old) (S.trace system.new) }
 {
-    let status = match tool {
-        ToolName::Atstat => return run_atstat(rt, words, &invoker.caller, spool),
-        ToolName::At | ToolName::Batch | ToolName::Atq | ToolName::Atrm | ToolName::Atday => {
-            run_commands(rt, words, &invoker.caller, spool)?
-        }
-        ToolName::Atd => run_atd(rt, words, &invoker.caller, spool, paths)?,
-        ToolName::Atpost => run_atpost(rt, words, spool, paths)?,
-        ToolName::Atcron => run_atcron(rt, words, &invoker.caller, spool, paths)?,
-        ToolName::Ataccount => run_account_on_spool(rt, words, spool, lock_wait(rt))?,
-        ToolName::Atcheck => run_atcheck(rt, words, spool, paths)?,
+    let target = target_of(tool, words);
+    if saves_into_itself(system, tool, words, paths, &target) {
+        return Ok(ToolRun {
+            exit: busy(rt, tool),
+            system: None,
+        });
+    }
+    let path = spool.path.as_str();
+    before_program(rt, system, tool, words, path)?;
+    let program = program_of(system, rt.alloc(), tool, words, mails, path)?;
+    let clock = tool_clock(rt, tool, paths)?;
+    let plan = SystemPlan {
+        spool: Text::of(rt.alloc(), path)?,
+        target,
+        waits: lock_wait(system),
     };
-    Ok(ToolEnd::By(status.cause))
+    let ran = run_on_real_system(rt, program, words, &invoker.caller, plan, clock, witnesses)?;
+    Ok(ToolRun {
+        exit: ran.exit,
+        system: Some(ran.system),
+    })
 }
 
-// The same of atstat.
-fn run_atstat(
+// What comes before the program of a daemon: atcron warns of a mark that is ahead of the clock, and atpost waits for notices that
+// an earlier one has just started.
+fn before_program<S: System>(
     rt: &HostRuntime,
+    system: &mut S,
+    tool: ToolName,
     words: &[String],
-    caller: &Caller,
-    spool: Text,
-) -> Result<ToolEnd, AllocError>
-    ensures { IfOk result (IsToolEnd Atstat) }
+    spool: &str,
+) -> Result<(), AllocError>
+    ensures { Continues (S.trace system.old) (S.trace system.new) }
 {
-    let mut clock = real_clock(rt)?;
-    let status = run_stat_on_spool(rt, words, caller, spool, lock_wait(rt), &mut clock)?;
-    Ok(ToolEnd::of(status))
+    match tool {
+        ToolName::Atcron => warn_of_mark(system, rt.alloc(), spool)?,
+        ToolName::Atpost if is_daemon_run(tool, words) => await_young_notices(rt, system, spool),
+        _ => {}
+    }
+    Ok(())
 }
 
-/// The same of a tool that submits, lists, shows or removes jobs, or makes a day.
-pub fn run_commands(
-    rt: &HostRuntime,
-    words: &[String],
-    caller: &Caller,
-    spool: Text,
-) -> Result<Status, AllocError>
-    requires umask { caller.now.context.umask < 512 }
-    ensures code { IfOk result (λ status. status ≡ status_of status.cause) }
+// Says that another program holds the spool.
+fn busy(rt: &HostRuntime, tool: ToolName) -> ProgramExit
+    ensures exit { result ≡ exit_of (status_of Busy) }
+    ensures code { IsExitCode result.code }
 {
-    let mut clock = real_clock(rt)?;
-    run_at_on_spool(rt, words, caller, spool, lock_wait(rt), &mut clock)
+    ProgramExit::of(refuse_tool(rt, tool, Cause::Busy))
 }
 
-// The same of atd, if no other one works on the spool.
-fn run_atd(
-    rt: &HostRuntime,
-    words: &[String],
-    caller: &Caller,
-    spool: Text,
-    paths: &Option<SpoolPaths>,
-) -> Result<Status, AllocError>
-    requires umask { caller.now.context.umask < 512 }
-    ensures code { IfOk result (λ status. status ≡ status_of status.cause) }
-{
-    // It is held until the end.
-    let lock = match paths {
-        Some(paths) => atd_lock(rt, paths)?,
-        None => DaemonLock::Held(None, None),
-    };
-    if matches!(&lock, DaemonLock::Taken) {
-        return Ok(refuse_tool(rt, ToolName::Atd, Cause::Busy));
+// The directory into which the words of atcheck salvage, which is taken out of them.
+fn target_of(tool: ToolName, words: &mut Vec<String>) -> Option<Text> {
+    if tool == ToolName::Atcheck {
+        take_directory(words).map(Text::from)
+    } else {
+        None
     }
-    let mut clock = spool_clock(rt, paths, &[sequence_name()])?;
-    let waits = lock_wait(rt);
-    run_at_on_spool(rt, words, caller, spool, waits, &mut clock)
-}
-
-// The same of atpost: a trim, or sessions whose rests end when a job was submitted or a journal mark was written.
-fn run_atpost(
-    rt: &HostRuntime,
-    words: &[String],
-    spool: Text,
-    paths: &Option<SpoolPaths>,
-) -> Result<Status, AllocError>
-    ensures code { IfOk result (λ status. status ≡ status_of status.cause) }
-{
-    if asks_for_trim(words) {
-        return run_trim_on_spool(rt, words, spool, lock_wait(rt));
-    }
-    let lock = lock_for(rt, ToolName::Atpost, words, "--send", paths)?;
-    if matches!(&lock, DaemonLock::Taken) {
-        return Ok(refuse_tool(rt, ToolName::Atpost, Cause::Busy));
-    }
-    if let Some(told) = trim_at_start(rt, words, spool.as_str())? {
-        return Ok(told);
-    }
-    let mut clock = spool_clock(rt, paths, &[sequence_name(), journal_name()])?;
-    let waits = lock_wait(rt);
-    run_post_on_spool(rt, words, spool, waits, &mut clock)
-}
-
-// The same of atcron.
-fn run_atcron(
-    rt: &HostRuntime,
-    words: &[String],
-    caller: &Caller,
-    spool: Text,
-    paths: &Option<SpoolPaths>,
-) -> Result<Status, AllocError>
-    requires umask { caller.now.context.umask < 512 }
-    ensures code { IfOk result (λ status. status ≡ status_of status.cause) }
-{
-    let lock = lock_for(rt, ToolName::Atcron, words, "-f", paths)?;
-    if matches!(&lock, DaemonLock::Taken) {
-        return Ok(refuse_tool(rt, ToolName::Atcron, Cause::Busy));
-    }
-    let mut clock = spool_clock(rt, paths, &[])?;
-    let waits = lock_wait(rt);
-    run_cron_on_spool(rt, words, caller, spool, waits, &mut clock)
-}
-
-// The same of atcheck, whose next word names the directory into which it saves.
-fn run_atcheck(
-    rt: &HostRuntime,
-    words: &mut Vec<String>,
-    spool: Text,
-    paths: &Option<SpoolPaths>,
-) -> Result<Status, AllocError>
-    ensures code { IfOk result (λ status. status ≡ status_of status.cause) }
-{
-    let new = take_directory(words).map(Text::from);
-    if saves_into_itself(rt, words, paths, &new) {
-        return Ok(refuse_tool(rt, ToolName::Atcheck, Cause::Busy));
-    }
-    run_check_on_spool(rt, words, spool, new, lock_wait(rt))
 }
 
 // Whether both words of atcheck name one directory: it would wait for itself.
-fn saves_into_itself(
-    rt: &HostRuntime,
+fn saves_into_itself<S: System>(
+    system: &mut S,
+    tool: ToolName,
     words: &[String],
     paths: &Option<SpoolPaths>,
-    new: &Option<Text>,
-) -> bool {
-    match (words, paths, new) {
-        ([_, word], Some(paths), Some(new)) => {
+    target: &Option<Text>,
+) -> bool
+    ensures { Continues (S.trace system.old) (S.trace system.new) }
+{
+    match (tool, words, paths, target) {
+        (ToolName::Atcheck, [_, word], Some(paths), Some(target)) => {
             word.as_str() == "--salvage"
-                && is_same_directory(rt, paths.spool.as_str(), new.as_str())
+                && is_same_directory(system, paths.spool.as_str(), target.as_str())
         }
         _ => false,
     }
 }
 
-// Takes the lock of a daemon in the spool, where the spool exists and the words have the option without which there is none.
-fn lock_for(
-    rt: &HostRuntime,
+// The program of a tool by its words. Where there are notes of mail, an atpost without an end trims them first, and a submission
+// with mail notes the new jobs.
+fn program_of<S: System>(
+    system: &mut S,
+    alloc: Global,
     tool: ToolName,
     words: &[String],
-    option: &str,
+    mails: bool,
+    spool: &str,
+) -> Result<Program, AllocError>
+    ensures program { IfOk result (λ program. (kept : Bool) ×
+        (program ≡ program_by tool (begins_trim (map string_bytes words.now)) kept)) }
+    ensures asked { Continues (S.trace system.old) (S.trace system.new) }
+{
+    let has_use = mails || (tool == ToolName::Atpost && is_endless(words));
+    let is_kept = has_use && has_notes(system, alloc, spool)?;
+    Ok(program_by(tool, begins_trim(words), is_kept))
+}
+
+fn program_by(tool: ToolName, is_trim: bool, is_kept: bool) -> Program
+    ensures { result ≡ program_by tool is_trim is_kept }
+{
+    match tool {
+        ToolName::At | ToolName::Batch => submission_program_by(is_kept),
+        ToolName::Atq | ToolName::Atrm | ToolName::Atd | ToolName::Atday => Program::Commands,
+        ToolName::Atstat => Program::Stat,
+        ToolName::Atpost => post_program_by(is_trim, is_kept),
+        ToolName::Atcron => Program::Cron,
+        ToolName::Ataccount => Program::Account,
+        ToolName::Atcheck => Program::Check,
+    }
+}
+
+fn submission_program_by(is_kept: bool) -> Program
+    ensures { result ≡ submission_program_by is_kept }
+{
+    if is_kept {
+        Program::CommandsThenNoting
+    } else {
+        Program::Commands
+    }
+}
+
+fn post_program_by(is_trim: bool, is_kept: bool) -> Program
+    ensures { result ≡ post_program_by is_trim is_kept }
+{
+    if is_trim {
+        Program::Trim
+    } else if is_kept {
+        Program::PostAfterTrim
+    } else {
+        Program::Post
+    }
+}
+
+// The clock of a tool. The rests of a daemon end at a full second, and earlier where one of these files of its spool has
+// changed: those of atd where a job was submitted, and those of atpost where a journal mark was written too.
+fn tool_clock(
+    rt: &HostRuntime,
+    tool: ToolName,
     paths: &Option<SpoolPaths>,
-) -> Result<DaemonLock, AllocError> {
-    match paths {
-        Some(paths) if has_option(words, option) => daemon_lock(rt, tool, paths),
-        _ => Ok(DaemonLock::Held(None, None)),
+) -> Result<RealClock, AllocError> {
+    match tool {
+        ToolName::Atd => spool_clock(rt, paths, &[sequence_name()]),
+        ToolName::Atpost => spool_clock(rt, paths, &[sequence_name(), journal_name()]),
+        ToolName::Atcron => spool_clock(rt, paths, &[]),
+        _ => real_clock(rt),
     }
 }
 

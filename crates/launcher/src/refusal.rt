@@ -1,12 +1,11 @@
 //! What a tool says that is refused before it begins.
 ghost use Rattle.std.specs.Prelude.{◌≡◌};
-ghost use Rattle.launcher.specs.ExitCodes.{IsExitCode};
+ghost use Rattle.launcher.specs.ExitCodes.{IsStatus};
 ghost use Rattle.listing_text.specs.Cause.{status_of};
 
-use crate::exit_codes::exit_code_of;
 use caller_environment::ToolName;
-use caller_spool::PROCESS_STATUS;
 use listing_text::{Cause, Status, cause_line};
+use process_input::PROCESS_STATUS;
 use std::str;
 
 /// Says why a tool doesn't begin. Answers its status.
@@ -19,13 +18,13 @@ pub fn refuse_tool(rt: &HostRuntime, tool: ToolName, cause: Cause) -> Status
     Status::of(cause)
 }
 
-/// Says that it can't be found out who calls a tool. Answers the exit status, that of a fault of the spool.
-pub fn refuse_unknown_caller(rt: &HostRuntime, tool: ToolName) -> u8
-    ensures { IsExitCode result }
+/// Says that it can't be found out who calls a tool. Answers its status, that of a fault of the spool.
+pub fn refuse_unknown_caller(rt: &HostRuntime, tool: ToolName) -> Status
+    ensures { IsStatus result }
 {
     let name = tool.as_str();
     let _ = eprintln!(rt; "{name}: {PROCESS_STATUS} can not be read");
-    exit_code_of(&Cause::FileFault)
+    Status::of(Cause::FileFault)
 }
 
 // (a line that can't be written is lost)

@@ -1,37 +1,43 @@
 //! What stops the use of a spool, found out after a tool said `spool fault`.
+ghost use Rattle.std.specs.Prelude.{OnOk};
+ghost use Rattle.system_calls.specs.Calls.{Continues};
+
 use crate::disk_probe::refusal_of;
-use caller_spool::{
-    CallingUser, SpoolPaths, ToolSpool, is_directory_there, is_link, is_theirs, paths_of,
+use caller_rules::{
+    CallingUser, SpoolPaths, ToolSpool, is_directory_there, is_link_there, is_owned_by, paths_of,
 };
 use std::alloc::AllocError;
-use std::fs;
 use std::io::ErrorKind;
-use std::os::unix::fs::MetadataExt;
 use std::path::Path;
+use system_calls::System;
 use tool_help::SpoolTrouble;
 
 /// What stops the use of a spool, and of which path that holds.
-pub fn trouble_of(
+pub fn trouble_of<S: System>(
     rt: &HostRuntime,
+    system: &mut S,
     user: &CallingUser,
     spool: &ToolSpool,
 ) -> Result<(SpoolTrouble, String), AllocError> {
-    match paths_of(rt, spool.path.as_str())? {
-        Some(paths) => trouble_at(rt, user, &paths),
-        None => trouble_above(rt, spool),
+    match paths_of(system, rt.alloc(), spool.path.as_str())? {
+        Some(paths) => trouble_at(rt, system, user, &paths),
+        None => trouble_above(rt, system, spool),
     }
 }
 
 // The same where the directory is absent in which the spool is to lie.
-fn trouble_above(
+fn trouble_above<S: System>(
     rt: &HostRuntime,
+    system: &mut S,
     spool: &ToolSpool,
-) -> Result<(SpoolTrouble, String), AllocError> {
+) -> Result<(SpoolTrouble, String), AllocError>
+    ensures { OnOk result (Continues (S.trace system.old) (S.trace system.new)) }
+{
     let alloc = rt.alloc();
     let mut absent = Path::new(spool.path.as_str());
     for path in absent.ancestors() {
-        if fs::symlink_metadata(rt, path).is_ok() {
-            let trouble = trouble_below(rt, path.as_str(), spool.is_own);
+        if system.link_status(path.as_str()).is_some() {
+            let trouble = trouble_below(rt, system, path.as_str(), spool.is_own);
             let about = match trouble {
                 SpoolTrouble::Absent => absent.as_str(),
                 _ => path.as_str(),
@@ -49,8 +55,15 @@ fn trouble_above(
 }
 
 // Why a path below this one, which exists, is absent.
-fn trouble_below(rt: &HostRuntime, path: &str, is_own: bool) -> SpoolTrouble {
-    if !is_directory_there(rt, path) {
+fn trouble_below<S: System>(
+    rt: &HostRuntime,
+    system: &mut S,
+    path: &str,
+    is_own: bool,
+) -> SpoolTrouble
+    ensures { Continues (S.trace system.old) (S.trace system.new) }
+{
+    if !is_directory_there(system, path) {
         return SpoolTrouble::NoDirectory;
     }
     // The caller's own spool would have been made.
@@ -61,12 +74,15 @@ fn trouble_below(rt: &HostRuntime, path: &str, is_own: bool) -> SpoolTrouble {
 }
 
 // The same where that directory exists.
-fn trouble_at(
+fn trouble_at<S: System>(
     rt: &HostRuntime,
+    system: &mut S,
     user: &CallingUser,
     paths: &SpoolPaths,
-) -> Result<(SpoolTrouble, String), AllocError> {
-    let (trouble, path) = match owner_trouble(rt, user, paths) {
+) -> Result<(SpoolTrouble, String), AllocError>
+    ensures { OnOk result (Continues (S.trace system.old) (S.trace system.new)) }
+{
+    let (trouble, path) = match owner_trouble(system, user, paths) {
         Some(found) => found,
         None => disk_trouble(rt, paths),
     };
@@ -74,31 +90,33 @@ fn trouble_at(
 }
 
 // What is not the user's, or is no directory, or a link.
-fn owner_trouble<'a>(
-    rt: &HostRuntime,
+fn owner_trouble<'a, S: System>(
+    system: &mut S,
     user: &CallingUser,
     paths: &'a SpoolPaths,
-) -> Option<(SpoolTrouble, &'a str)> {
+) -> Option<(SpoolTrouble, &'a str)>
+    ensures { Continues (S.trace system.old) (S.trace system.new) }
+{
     let spool = paths.spool.as_str();
-    if !is_directory_there(rt, paths.parent.as_str()) {
+    if !is_directory_there(system, paths.parent.as_str()) {
         return Some((SpoolTrouble::NoDirectory, paths.parent.as_str()));
     }
-    if fs::symlink_metadata(rt, spool).is_ok() && !is_directory_there(rt, spool) {
+    if system.link_status(spool).is_some() && !is_directory_there(system, spool) {
         return Some((SpoolTrouble::NoDirectory, spool));
     }
     for path in [paths.outputs.as_str(), paths.lock.as_str()] {
-        if is_link(rt, path) {
+        if is_link_there(system, path) {
             return Some((SpoolTrouble::Link, path));
         }
     }
     let number = user.number?;
     for path in [spool, paths.outputs.as_str(), paths.lock.as_str()] {
-        if !is_theirs(rt, path, number) {
+        if !is_owned_by(system, path, number) {
             return Some((SpoolTrouble::OtherUser, path));
         }
     }
-    match fs::metadata(rt, spool) {
-        Ok(found) if number != 0 && found.mode() & 0o700 != 0o700 => {
+    match system.status(spool) {
+        Some(found) if number != 0 && found.mode & 0o700 != 0o700 => {
             Some((SpoolTrouble::NotYours, spool))
         }
         _ => None,

@@ -1,173 +1,71 @@
 //! What the program does by the words of its process.
-ghost use Rattle.std.specs.Prelude.{IfOk};
-ghost use Rattle.launcher.specs.ExitCodes.{IsExitCode, IsExitCodeOf};
-ghost use Rattle.launcher.specs.ToolEnds.{IsToolEnd};
+ghost use Rattle.std.specs.Prelude.{◌≡◌, IfOk};
+ghost use Rattle.launcher.specs.NamedRuns.{IsRunByName};
+ghost use Rattle.listing_text.specs.Cause.{code_of};
+ghost use Rattle.listing_text.specs.declared.cause.Cause.TheVariants.{Refused};
+ghost use Rattle.listing_text.specs.declared.refusal.Refusal.TheVariants.{Usage};
 
-use crate::after_submission::{after_submission, is_submission};
-use crate::clock_mark::warn_of_mark;
-use crate::exit_codes::exit_code_of;
-use crate::programs::{run_commands, run_tool_on};
-use crate::refusal::{refuse_tool, refuse_unknown_caller};
+use crate::after_submission::after_submission;
+use crate::run_tool::run_tool;
 use crate::say_hint::say_hint;
-use crate::self_description::{describe, description_asked};
-use crate::send_program::unusable_program;
-use crate::tool_end::ToolEnd;
+use crate::tool_end::{HowEnded, ToolEnd};
 use caller_environment::{ToolName, take_tool};
-use caller_spool::{
-    CallingUser, Invoker, LISTS, ToolSpool, invoker_of, make_own, may_call, may_save_into,
-    may_work_on, paths_of, spool_of,
-};
-use host_calls::Text;
+use caller_rules::LISTS;
+use host_calls::{Host, Inputs, Readings, Sink};
 use listing_text::{Cause, Refusal};
-use process_input::{StartupError, caller_of, process_words};
-use real_programs::run_next;
+use memory_host::MemoryHost;
+use process_input::{StartupError, process_words};
+use real_programs::{RealClock, RealDirectory, RealErrors, RealInput, RealOutput, Witnesses};
 use std::alloc::AllocError;
-use tool_output::Caller;
+use system_calls::{ProcessSystem, System, TracedSystem};
+use witnessed_host::{InputWitness, Witness};
 
 /// Does what the words of this process request. Answers the exit status.
-pub fn run_tool_by_name(rt: &HostRuntime) -> Result<u8, StartupError> {
+pub fn run_tool_by_name<W: Witness + Drop, V: InputWitness + Drop>(
+    rt: &HostRuntime,
+    witnesses: Witnesses<W, V>,
+) -> Result<u8, StartupError>
+    /// The tool that the words of the process name ends by its words, and the exit status is that of its end.
+    ensures { IfOk result (IsRunByName ⟦<RealDirectory<W> as Host>⟧ ⟦<MemoryHost as Host>⟧
+        ⟦<RealClock as Readings>⟧ ⟦<RealInput<V> as Inputs>⟧ ⟦<RealOutput as Sink>⟧ ⟦<RealErrors as Sink>⟧ witnesses) }
+{
     let mut words = process_words(rt)?;
     let Some(tool) = take_tool(&mut words) else {
         return Ok(no_tool(rt));
     };
-    Ok(run_tool(rt, tool, &mut words)?)
+    // It keeps the locks of a daemon until the end.
+    let mut system = TracedSystem::new(ProcessSystem::new(*rt));
+    let end = run_tool(rt, &mut system, tool, &mut words, witnesses)?;
+    follow(rt, &mut system, tool, &end)?;
+    Ok(end.run.exit.code)
 }
 
 // Says that the words name no tool.
 fn no_tool(rt: &HostRuntime) -> u8
-    ensures { IsExitCode result }
+    ensures { result ≡ code_of (Refused Usage) }
 {
     let _ = rt.eprint("coefhird: usage\n");
-    exit_code_of(&Cause::Refused(Refusal::Usage))
+    Cause::Refused(Refusal::Usage).code()
 }
 
-// Does what the words of this tool request.
-fn run_tool(rt: &HostRuntime, tool: ToolName, words: &mut Vec<String>) -> Result<u8, AllocError>
-    ensures { IfOk result (IsExitCodeOf tool) }
-{
-    if let Some(asked) = description_asked(words) {
-        return Ok(describe(rt, tool, asked)?);
-    }
-    if tool == ToolName::Atday {
-        return Ok(make_day(rt, words)?);
-    }
-    let Some(invoker) = invoker_of(rt)? else {
-        return Ok(refuse_unknown_caller(rt, tool));
-    };
-    if tool == ToolName::Atcron && asks_for_next(words) {
-        return Ok(list_next(rt, words, &invoker.caller)?);
-    }
-    let spool = spool_of(rt, tool, words, &invoker.user)?;
-    run_on_spool(rt, tool, words, &invoker, &spool)
-}
-
-// A day is made in memory: it has no spool.
-fn make_day(rt: &HostRuntime, words: &[String]) -> Result<u8, AllocError>
-    ensures { IfOk result IsExitCode }
-{
-    let caller = caller_of(rt)?;
-    let status = run_commands(rt, words, &caller, Text::of(rt.alloc(), "/")?)?;
-    Ok(exit_code_of(&status.cause))
-}
-
-// Whether the words of atcron ask when the entries of a crontab are due next.
-fn asks_for_next(words: &[String]) -> bool {
-    words.iter().any(|word| word.as_str().starts_with("--next"))
-}
-
-// Lists when they are: it has no spool.
-fn list_next(rt: &HostRuntime, words: &[String], caller: &Caller) -> Result<u8, AllocError>
-    ensures { IfOk result IsExitCode }
-{
-    let status = run_next(rt, words, &caller.zone)?;
-    Ok(exit_code_of(&status.cause))
-}
-
-// Does what the words of a tool request over its spool, where the user may.
-fn run_on_spool(
+// What follows the end of a tool on its spool: a warning where no atd will run the job that was accepted, and a hint after a
+// refusal.
+fn follow<S: System, W: Witness + Drop, V: InputWitness + Drop>(
     rt: &HostRuntime,
+    system: &mut S,
     tool: ToolName,
-    words: &mut Vec<String>,
-    invoker: &Invoker,
-    spool: &ToolSpool,
-) -> Result<u8, AllocError>
-    ensures { IfOk result (IsExitCodeOf tool) }
-{
-    let user = &invoker.user;
-    if !may_call(rt, tool, user) {
-        let status = refuse_tool(rt, tool, Cause::Refused(Refusal::NotAllowed));
-        say_hint(rt, tool, &status.cause, user, spool, LISTS)?;
-        return Ok(exit_code_of(&status.cause));
-    }
-    if tool == ToolName::Atpost && refuses_program(rt, words) {
-        return Ok(exit_code_of(&Cause::Refused(Refusal::Usage)));
-    }
-    let ended = run_permitted(rt, tool, words, invoker, spool)?;
-    if let ToolEnd::By(cause) = &ended {
-        follow(rt, tool, words, cause, user, spool)?;
-    }
-    Ok(ended.code(tool))
-}
-
-// What follows the end of a tool for this cause: a submission that was accepted requests an atd, and a refusal has a hint.
-fn follow(
-    rt: &HostRuntime,
-    tool: ToolName,
-    words: &[String],
-    cause: &Cause,
-    user: &CallingUser,
-    spool: &ToolSpool,
+    end: &ToolEnd<W, V>,
 ) -> Result<(), AllocError> {
-    if cause.is_done() && is_submission(rt, tool, words) {
-        after_submission(rt, tool, user, spool)?;
+    let (HowEnded::Launched(invoker, spool, submits), Some(cause)) = (&end.how, &end.run.exit.cause)
+    else {
+        return Ok(());
+    };
+    if cause.is_done() && *submits {
+        after_submission(system, rt.alloc(), tool, &invoker.user, spool)?;
     }
-    say_hint(rt, tool, cause, user, spool, spool.path.as_str())
-}
-
-// Says so where the program of notices can't be executed.
-fn refuses_program(rt: &HostRuntime, words: &[String]) -> bool {
-    match unusable_program(rt, words) {
-        Some(path) => {
-            let _ = eprintln!(rt; "atpost: {path} can not be executed");
-            true
-        }
-        None => false,
-    }
-}
-
-// The same, where neither the lists of the machine nor the words refuse it.
-fn run_permitted(
-    rt: &HostRuntime,
-    tool: ToolName,
-    words: &mut Vec<String>,
-    invoker: &Invoker,
-    spool: &ToolSpool,
-) -> Result<ToolEnd, AllocError>
-    ensures { IfOk result (IsToolEnd tool) }
-{
-    let user = &invoker.user;
-    if !make_own(rt, user, spool) {
-        return Ok(faulted(rt, tool));
-    }
-    let paths = paths_of(rt, spool.path.as_str())?;
-    if let Some(paths) = &paths {
-        if !may_work_on(rt, tool, user, paths) {
-            return Ok(faulted(rt, tool));
-        }
-    }
-    if tool == ToolName::Atcheck && !may_save_into(rt, words, user)? {
-        return Ok(faulted(rt, tool));
-    }
-    if tool == ToolName::Atcron {
-        warn_of_mark(rt, spool.path.as_str())?;
-    }
-    let path = Text::of(rt.alloc(), spool.path.as_str())?;
-    run_tool_on(rt, tool, words, invoker, path, &paths)
-}
-
-// Says that the tool may not use its spool.
-fn faulted(rt: &HostRuntime, tool: ToolName) -> ToolEnd
-    ensures { IsToolEnd tool result }
-{
-    ToolEnd::By(refuse_tool(rt, tool, Cause::FileFault).cause)
+    let lists = match &end.run.system {
+        None => LISTS,
+        Some(_) => spool.path.as_str(),
+    };
+    say_hint(rt, system, tool, cause, &invoker.user, spool, lists)
 }

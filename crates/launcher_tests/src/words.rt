@@ -102,7 +102,7 @@ fn variables(rt: HostRuntime) -> Result<(), Fail> {
         (
             "LOGNAME=root|TZ=Europe/Berlin",
             Some("CET-1"),
-            "LOGNAME=mary|TZ=CET-1|PWD=/d",
+            "LOGNAME=mary|TZ=Europe/Berlin|PWD=/d",
         ),
         (
             "TZ=Europe/Berlin",
@@ -112,7 +112,7 @@ fn variables(rt: HostRuntime) -> Result<(), Fail> {
         (
             "PWDX=1|LOGNAME=|OLDPWD=/o",
             Some("UTC0"),
-            "PWDX=1|LOGNAME=mary|OLDPWD=/o|PWD=/d|TZ=UTC0",
+            "PWDX=1|LOGNAME=mary|OLDPWD=/o|PWD=/d",
         ),
     ];
     for (line, zone, wanted) in cases {

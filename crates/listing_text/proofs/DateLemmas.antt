@@ -11,11 +11,13 @@ pub three_items : (bytes : List ℕ) → length bytes ≡ 3 → bytes ≡ get_or
 three_items bytes counted = text_from_reads bytes _ counted (refl, (refl, (refl, tt)))
 
 -- four bytes by their places
-pub four_items : (bytes : List ℕ) → length bytes ≡ 4 → bytes ≡ get_or bytes 0 0 ∷ get_or bytes 1 0 ∷ get_or bytes 2 0 ∷ get_or bytes 3 0 ∷ []
+pub four_items : (bytes : List ℕ) → length bytes ≡ 4
+    → bytes ≡ get_or bytes 0 0 ∷ get_or bytes 1 0 ∷ get_or bytes 2 0 ∷ get_or bytes 3 0 ∷ []
 four_items bytes counted = text_from_reads bytes _ counted (refl, (refl, (refl, (refl, tt))))
 
 -- a number of four digits by its places
-pub decimal-four : (n : ℕ) → 1000 ≤ n → n ≤ 9999 → decimal n ≡ (48 + n / 1000) ∷ (48 + n / 100 % 10) ∷ (48 + n / 10 % 10) ∷ (48 + n % 10) ∷ []
+pub decimal-four : (n : ℕ) → 1000 ≤ n → n ≤ 9999
+    → decimal n ≡ (48 + n / 1000) ∷ (48 + n / 100 % 10) ∷ (48 + n / 10 % 10) ∷ (48 + n % 10) ∷ []
 decimal-four n low high =
     let hundreds : n / 10 / 10 ≡ n / 100 = omega arith in
     let thousands : n / 100 / 10 ≡ n / 1000 = omega arith in

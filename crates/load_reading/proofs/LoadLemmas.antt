@@ -8,7 +8,8 @@ use Rattle.std.specs.Char.{is_ascii_digit}
 use Rattle.load_reading.specs.Load.{SpellsFraction, SpellsLoad}
 
 -- one more byte at the start
-prefix-cons : (test : ℕ → Bool) (byte : ℕ) (prefix : List ℕ) (passes : Bool) → test byte ≡ passes → IsTrue (list_all test prefix) → IsTrue (list_all test (cond passes (byte ∷ prefix) []))
+prefix-cons : (test : ℕ → Bool) (byte : ℕ) (prefix : List ℕ) (passes : Bool) → test byte ≡ passes → IsTrue (list_all test prefix)
+    → IsTrue (list_all test (cond passes (byte ∷ prefix) []))
 prefix-cons test byte prefix true passed each = rw passed each
 prefix-cons test byte prefix false failed each = refl
 
@@ -20,7 +21,8 @@ list_all-prefix test (byte ∷ bytes) =
     (prefix-cons test byte (take_while test bytes) (test byte) refl (list_all-prefix test bytes))
 
 -- a run of digits ends where the point is
-pub count-before_point : (whole rest : List ℕ) → IsTrue (list_all is_ascii_digit whole) → prefix_len is_ascii_digit (whole ++ 46 ∷ rest) ≡ length whole
+pub count-before_point : (whole rest : List ℕ) → IsTrue (list_all is_ascii_digit whole)
+    → prefix_len is_ascii_digit (whole ++ 46 ∷ rest) ≡ length whole
 count-before_point [] rest digits = refl
 count-before_point (byte ∷ whole) rest digits =
     let first : is_ascii_digit byte ≡ true = grind (arith, digits) in
@@ -34,7 +36,8 @@ count-load text load spelled =
     rw (spelled.spelled, spelled.fraction.spelled) (count-before_point spelled.whole _ spelled.digits)
 
 -- those digits are followed by the fraction
-pub fraction-load : (text : List ℕ) (load : ℕ) → (spelled : SpellsLoad text load) → SpellsFraction (drop (prefix_len is_ascii_digit text) text) spelled.hundredths
+pub fraction-load : (text : List ℕ) (load : ℕ) → (spelled : SpellsLoad text load)
+    → SpellsFraction (drop (prefix_len is_ascii_digit text) text) spelled.hundredths
 fraction-load text load spelled =
     let after : drop (prefix_len is_ascii_digit text) text ≡ spelled.rest =
     rw (count-load text load spelled, spelled.spelled) (drop-append_seam spelled.whole spelled.rest) in

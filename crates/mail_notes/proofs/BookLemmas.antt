@@ -18,7 +18,8 @@ use Rattle.mail_notes.specs.declared.note.Note.TheVariants.{Dropped, Noted, Sent
 use Rattle.mail_notes.specs.Notes.{has_closing_note, is_closing_note, has_note_of, is_noted, is_noting, is_note_allowed, is_note_of, number_of_note}
 
 -- the standing tells what may come
-pub told_by : (notes : List Note) (notice_state : Option NoticeState) (note : Note) → IsNoticeStateAt notes (number_of_note note) notice_state
+pub told_by : (notes : List Note) (notice_state : Option NoticeState) (note : Note)
+    → IsNoticeStateAt notes (number_of_note note) notice_state
     → is_note_allowed notes note ≡ note_may_follow notice_state note
 told_by notes None (Noted job) holds = ap not holds
 told_by notes None (Sent number) holds = rw (none_says (is_note_of number) is_noting notes holds) refl
@@ -53,7 +54,8 @@ not_true true is = absurd cc
 not_true false is = refl
 
 -- the note of a notice that was sent or dropped
-closed_here : (notes : List Note) (number : ℕ) (next : Note) → is_note_of number next ≡ true → is_closing_note next ≡ true → is_noted number notes ≡ true
+closed_here : (notes : List Note) (number : ℕ) (next : Note) → is_note_of number next ≡ true → is_closing_note next ≡ true
+    → is_noted number notes ≡ true
     → IsNoticeStateAt (notes ++ next ∷ []) number (Some Closed)
 closed_here notes number next here closing noted = record {
   is_noted = any_here (is_note_of number) is_noting notes next here ∙ rw noted refl;
@@ -61,19 +63,23 @@ closed_here notes number next here closing noted = record {
 }
 
 -- a note that may come says the state of its job
-holds_here : (notes : List Note) (next : Note) → is_note_allowed notes next ≡ true → IsNoticeStateAt (notes ++ next ∷ []) (number_of_note next) (Some (notice_state_after next))
+holds_here : (notes : List Note) (next : Note) → is_note_allowed notes next ≡ true
+    → IsNoticeStateAt (notes ++ next ∷ []) (number_of_note next) (Some (notice_state_after next))
 holds_here notes (Noted job) may =
     let none : has_note_of job.number notes ≡ false = not_true (has_note_of job.number notes) may in
     record {
       number_is = refl;
       noted = Contains-push notes (Noted job);
       is_noted = any_here (is_note_of job.number) is_noting notes (Noted job) (same_number job.number) ∙ or-true _;
-      open_yet = any_here (is_note_of job.number) is_closing_note notes (Noted job) (same_number job.number) ∙ or-false _ ∙ none_says (is_note_of job.number) is_closing_note notes none;
+      open_yet = any_here (is_note_of job.number) is_closing_note notes (Noted job) (same_number job.number) ∙ or-false _
+          ∙ none_says (is_note_of job.number) is_closing_note notes none;
     }
 holds_here notes (Sent number) may =
-    closed_here notes number (Sent number) (same_number number) refl (and_parts (is_noted number notes) (not (has_closing_note number notes)) may).0
+    closed_here notes number (Sent number) (same_number number) refl
+    (and_parts (is_noted number notes) (not (has_closing_note number notes)) may).0
 holds_here notes (Dropped number) may =
-    closed_here notes number (Dropped number) (same_number number) refl (and_parts (is_noted number notes) (not (has_closing_note number notes)) may).0
+    closed_here notes number (Dropped number) (same_number number) refl
+    (and_parts (is_noted number notes) (not (has_closing_note number notes)) may).0
 
 -- one more note, which may come, in a map that has its standing after it
 pub stand_more : (notes : List Note) (next : Note) (old new : BTreeMap ℕ NoticeState) (number : ℕ) (notice_state : NoticeState)
@@ -87,7 +93,8 @@ stand_more notes next old new at notice_state at_is after stand may updates =
     (λ other apart. holds_else notes other (tree.get nat_cmp old other) next (ap (λ n. n == other) (sym at_is) ∙ apart) (stand other))
 
 -- the standing of the number decides whether a note may come
-pub may_decided : (notes : List Note) (next : Note) (old : BTreeMap ℕ NoticeState) (number : ℕ) (answer : Bool) → number ≡ number_of_note next → AreNoticeStates notes old
+pub may_decided : (notes : List Note) (next : Note) (old : BTreeMap ℕ NoticeState) (number : ℕ) (answer : Bool)
+    → number ≡ number_of_note next → AreNoticeStates notes old
     → answer ≡ note_may_follow (tree.get nat_cmp old number) next → is_note_allowed notes next ≡ answer
 may_decided notes next old number answer at_is stand is =
     told_by notes (tree.get nat_cmp old (number_of_note next)) next (stand (number_of_note next))

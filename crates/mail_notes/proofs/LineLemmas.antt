@@ -36,7 +36,8 @@ space_of_parts file rest none =
     ap (λ test. cond test (Some (position_or_len is_space (file ++ 32 ∷ rest))) None) inside ∙ ap Some place
 
 -- the parts of a text
-pub parts_alike : (rest file other_file : List ℕ) (flag other_flag : ℕ) (user other_user : List ℕ) → AreParts rest file flag user → AreParts rest other_file other_flag other_user
+pub parts_alike : (rest file other_file : List ℕ) (flag other_flag : ℕ) (user other_user : List ℕ) → AreParts rest file flag user
+    → AreParts rest other_file other_flag other_user
     → (file ≡ other_file) × (flag ≡ other_flag) × (user ≡ other_user)
 parts_alike rest file other_file flag other_flag user other_user one two =
     let split = one_split 32 file other_file _ _ one.no_space two.no_space (ap (drop 1) (sym one.is ∙ two.is)) in
@@ -46,17 +47,20 @@ parts_alike rest file other_file flag other_flag user other_user one two =
 pub letter_part : (line : List ℕ) (note : Note) → SpellsNote line note → get_or line 0 0 ≡ letter_of_note note
 letter_part line note spelled = ap (λ (text : List ℕ). get_or text 0 0) spelled.is
 
-pub tail_part : (line : List ℕ) (note : Note) → SpellsNote line note → take (length line - 2) (drop 2 line) ≡ digits_of (number_of_note note) ++ rest_text note
+pub tail_part : (line : List ℕ) (note : Note) → SpellsNote line note
+    → take (length line - 2) (drop 2 line) ≡ digits_of (number_of_note note) ++ rest_text note
 tail_part line note spelled = after_space line (digits_of (number_of_note note) ++ rest_text note) (letter_of_note note) spelled.is
 
-pub digits_part : (line : List ℕ) (note : Note) → SpellsNote line note → take 8 (take (length line - 2) (drop 2 line)) ≡ digits_of (number_of_note note)
+pub digits_part : (line : List ℕ) (note : Note) → SpellsNote line note
+    → take 8 (take (length line - 2) (drop 2 line)) ≡ digits_of (number_of_note note)
 digits_part line note spelled = ap (take 8) (tail_part line note spelled)
 
 pub rest_part : (line : List ℕ) (note : Note) → SpellsNote line note → drop 8 (take (length line - 2) (drop 2 line)) ≡ rest_text note
 rest_part line note spelled = ap (drop 8) (tail_part line note spelled)
 
 -- a line of which no note has the parts spells none
-pub none_spelled : (line : List ℕ) (number : ℕ) (digits rest : List ℕ) (found : Option Note) → digits ≡ take 8 (take (length line - 2) (drop 2 line))
+pub none_spelled : (line : List ℕ) (number : ℕ) (digits rest : List ℕ) (found : Option Note)
+    → digits ≡ take 8 (take (length line - 2) (drop 2 line))
     → rest ≡ drop 8 (take (length line - 2) (drop 2 line)) → digits ≡ digits_of number → number < 16 ^ 8
     → IfNone found ((note : Note) → ¬ IsNoteText (get_or line 0 0) number rest note) → IfNone found ((note : Note) → ¬ SpellsNote line note)
 none_spelled line number digits rest (Some note) begins back is fits none = tt
@@ -68,7 +72,8 @@ none_spelled line number digits rest None begins back is fits none = λ note spe
 })
 
 -- Where the parts of a text are.
-module _ (rest after : List ℕ) (parted : rest ≡ 32 ∷ after) (file : List ℕ) (flag : ℕ) (user : List ℕ) (parts : AreParts rest file flag user) where
+module _ (rest after : List ℕ) (parted : rest ≡ 32 ∷ after) (file : List ℕ) (flag : ℕ) (user : List ℕ)
+    (parts : AreParts rest file flag user) where
   after_is : after ≡ file ++ (32 ∷ flag ∷ 32 ∷ user)
   after_is = ap (drop 1) (sym parted ∙ parts.is)
 
@@ -85,13 +90,16 @@ module _ (rest after : List ℕ) (parted : rest ≡ 32 ∷ after) (file : List �
       ap (λ place. drop place after) same ∙ ap (drop (length file)) after_is ∙ drop-append_seam file (32 ∷ flag ∷ 32 ∷ user)
 
 -- the text has the parts that were found
-pub parts_found : (rest after file tail : List ℕ) (end flag : ℕ) (user : List ℕ) → rest ≡ 32 ∷ after → Some end ≡ position is_space after → file ≡ take end after → tail ≡ drop end after
+pub parts_found : (rest after file tail : List ℕ) (end flag : ℕ) (user : List ℕ) → rest ≡ 32 ∷ after → Some end ≡ position is_space after
+    → file ≡ take end after → tail ≡ drop end after
     → tail ≡ 32 ∷ flag ∷ 32 ∷ user → AreParts rest file flag user
 parts_found rest after file tail end flag user parted found begins back is = record {
-  is = parted ∙ ap (λ text. 32 ∷ text) (sym (take-append-drop end after) ∙ ap (λ t. t ++ drop end after) (sym begins) ∙ ap (λ t. file ++ t) (sym back ∙ is));
+  is = parted ∙ ap (λ text. 32 ∷ text) (sym (take-append-drop end after) ∙ ap (λ t. t ++ drop end after) (sym begins)
+      ∙ ap (λ t. file ++ t) (sym back ∙ is));
   no_space = subst (HasNone 32) (sym begins) (none_before 32 after end (sym found));
 }
 
 -- the parts of a job's text
-pub parts_of : (number : ℕ) (rest : List ℕ) (job : NotedJob) → IsNotedJobText number rest job → AreParts rest job.file (flag_byte job.always) job.user
+pub parts_of : (number : ℕ) (rest : List ℕ) (job : NotedJob) → IsNotedJobText number rest job
+    → AreParts rest job.file (flag_byte job.always) job.user
 parts_of number rest job text = record { is = text.is; no_space = no_space job.number job.file text.of.file }

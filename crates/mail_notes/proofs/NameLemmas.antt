@@ -53,20 +53,26 @@ notice_is_name number fits = record {
 
 -- A name is that of a notice exactly where its number is read of it.
 
-is_read : (name : List ℕ) (number : ℕ) → (counted : Bool) → (length name == 13) ≡ counted → (begins : Bool) → bytes_eq (take 5 name) (codes "mail.") ≡ begins →
+is_read : (name : List ℕ) (number : ℕ) → (counted : Bool) → (length name == 13) ≡ counted → (begins : Bool)
+    → bytes_eq (take 5 name) (codes "mail.") ≡ begins →
     notice_number name ≡ Some number → Fits number × (name ≡ notice_file number)
-is_read name number false long begins same is = absurd (let impossible : ◌≡◌ {A = Option ℕ} None (Some number) = sym (rw long refl) ∙ is in cc)
-is_read name number true long false same is = absurd (let impossible : ◌≡◌ {A = Option ℕ} None (Some number) = sym (rw long (rw same refl)) ∙ is in cc)
+is_read name number false long begins same is =
+    absurd (let impossible : ◌≡◌ {A = Option ℕ} None (Some number) = sym (rw long refl) ∙ is in cc)
+is_read name number true long false same is =
+    absurd (let impossible : ◌≡◌ {A = Option ℕ} None (Some number) = sym (rw long (rw same refl)) ∙ is in cc)
 is_read name number true long true same is =
     let whole : length name ≡ 13 = grind (arith, nat_tests) in
     let digits : number_in (drop 5 name) ≡ Some number = sym (rw long (rw same refl)) ∙ is in
     let counted : length (drop 5 name) ≡ 8 = omega (arith, length-drop 5 name) in
     let spelled = spelled_eight (drop 5 name) number counted (number_spelled (drop 5 name) number digits) in
-    let begin : take 5 name ≡ codes "mail." = (bytes_eq-Decides (take 5 name) (codes "mail.")).0 same in
-    (spelled.0, sym (take-append-drop 5 name) ∙ ap (λ (l : List ℕ). l ++ drop 5 name) begin ∙ ap (λ (l : List ℕ). codes "mail." ++ l) spelled.1)
+    let begin : take 5 name ≡ codes "mail." = (bytes_eq-Decides (take 5 name) (codes "mail.")).0 same in (
+      spelled.0,
+      sym (take-append-drop 5 name) ∙ ap (λ (l : List ℕ). l ++ drop 5 name) begin ∙ ap (λ (l : List ℕ). codes "mail." ++ l) spelled.1,
+    )
 
 read_back : (name : List ℕ) (number : ℕ) → number < 16 ^ 8 → name ≡ notice_file number → notice_number name ≡ Some number
-read_back name number fits is = subst (λ (n : List ℕ). notice_number n ≡ Some number) (sym is) (number_given (digits_of number) number (digits_spelled number fits))
+read_back name number fits is =
+    subst (λ (n : List ℕ). notice_number n ≡ Some number) (sym is) (number_given (digits_of number) number (digits_spelled number fits))
 
 pub notice_numbers_are_read : NoticeNumbersAreRead
 notice_numbers_are_read name number = (
@@ -82,13 +88,17 @@ none_in digits none = by_held (number_in digits) refl where
   by_held None is = is
   by_held (Some number) is = absurd (none number (number_spelled digits number is))
 
-pub number_by : (name digits : List ℕ) (read : Option ℕ) → length name ≡ 13 → bytes_eq (take 5 name) (codes "mail.") ≡ true → digits ≡ drop 5 name → number_in digits ≡ read → notice_number name ≡ read
+pub number_by : (name digits : List ℕ) (read : Option ℕ) → length name ≡ 13 → bytes_eq (take 5 name) (codes "mail.") ≡ true
+    → digits ≡ drop 5 name → number_in digits ≡ read → notice_number name ≡ read
 number_by name digits read long same digits_is is =
     let counted : (length name == 13) ≡ true = grind (arith, nat_tests) in
     rw counted (rw same (ap number_in (sym digits_is) ∙ is))
 
-pub number_spelled_by : (name digits : List ℕ) (number : ℕ) → length name ≡ 13 → bytes_eq (take 5 name) (codes "mail.") ≡ true → digits ≡ drop 5 name → SpellsNumber digits number → notice_number name ≡ Some number
-number_spelled_by name digits number long same digits_is spelled = number_by name digits (Some number) long same digits_is (number_given digits number spelled)
+pub number_spelled_by : (name digits : List ℕ) (number : ℕ) → length name ≡ 13 → bytes_eq (take 5 name) (codes "mail.") ≡ true
+    → digits ≡ drop 5 name → SpellsNumber digits number → notice_number name ≡ Some number
+number_spelled_by name digits number long same digits_is spelled =
+    number_by name digits (Some number) long same digits_is (number_given digits number spelled)
 
-pub number_not_spelled : (name digits : List ℕ) → length name ≡ 13 → bytes_eq (take 5 name) (codes "mail.") ≡ true → digits ≡ drop 5 name → ((number : ℕ) → ¬ (SpellsNumber digits number)) → notice_number name ≡ None
+pub number_not_spelled : (name digits : List ℕ) → length name ≡ 13 → bytes_eq (take 5 name) (codes "mail.") ≡ true → digits ≡ drop 5 name
+    → ((number : ℕ) → ¬ (SpellsNumber digits number)) → notice_number name ≡ None
 number_not_spelled name digits long same digits_is none = number_by name digits None long same digits_is (none_in digits none)

@@ -25,7 +25,8 @@ first_after : (first prefix later : List Note) → IsNotesPrefix prefix later �
 first_after first prefix later is = (is.0, ap (λ (l : List Note). first ++ l) is.1 ∙ sym (append_assoc first prefix is.0))
 
 -- what notes send, and what others after them do
-pub hands_then : (of : Mailing) (first later : List Note) (given more : List Handed) → SendsNotices of first given → SendsNotices of later more →
+pub hands_then : (of : Mailing) (first later : List Note) (given more : List Handed) → SendsNotices of first given
+    → SendsNotices of later more →
     SendsNotices of (first ++ later) (given ++ more)
 hands_then of [] later given more before after = subst (λ (l : List Handed). SendsNotices of later (l ++ more)) (sym before) after
 hands_then of (note ∷ others) later given more before after = (
@@ -96,7 +97,8 @@ leaves_after : (of : Mailing) (notes first later : List Note) (given : List Hand
     LeavesOnly (IsAlongNotes of notes (first ++ later) start.now) start end
 leaves_after of notes first later given questions start middle end before after =
     leaves_then (IsAlongNotes of notes (first ++ later) start.now) start middle end
-    (leaves_weaker (IsAlongNotes of notes first start.now) (IsAlongNotes of notes (first ++ later) start.now) start middle (along_longer of notes first later start) before.leaves)
+    (leaves_weaker (IsAlongNotes of notes first start.now) (IsAlongNotes of notes (first ++ later) start.now) start middle
+    (along_longer of notes first later start) before.leaves)
     (leaves_weaker (IsAlongNotes of (notes ++ first) later middle.now) (IsAlongNotes of notes (first ++ later) start.now) middle end
     (along_after of notes first later given questions start middle before) after)
 

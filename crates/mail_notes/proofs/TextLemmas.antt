@@ -12,7 +12,8 @@ four_parts old one two three four a b c d first second third fourth =
     ∙ append_assoc ((old ++ a) ++ b) c d ∙ append_assoc (old ++ a) b (c ++ d) ∙ append_assoc old a (b ++ (c ++ d))
 
 -- three parts and four
-pub seven_parts : (old one two three four five six seven a b c d e f g : List ℕ) → one ≡ old ++ a → two ≡ one ++ b → three ≡ two ++ c → four ≡ three ++ d
+pub seven_parts : (old one two three four five six seven a b c d e f g : List ℕ) → one ≡ old ++ a → two ≡ one ++ b
+    → three ≡ two ++ c → four ≡ three ++ d
     → five ≡ four ++ e → six ≡ five ++ f → seven ≡ six ++ g → seven ≡ old ++ (a ++ (b ++ (c ++ (d ++ (e ++ (f ++ g))))))
 seven_parts old one two three four five six seven a b c d e f g first second third fourth fifth sixth last =
     four_parts three four five six seven d e f g fourth fifth sixth last
@@ -32,4 +33,5 @@ note_files_are_texts bytes (note ∷ later) spelled =
 -- one more note
 pub notes_text-push : (notes : List Note) (note : Note) → notes_text (notes ++ note ∷ []) ≡ notes_text notes ++ note_line note
 notes_text-push [] note = append-nil (note_line note)
-notes_text-push (first ∷ notes) note = ap (λ text. note_line first ++ text) (notes_text-push notes note) ∙ sym (append_assoc (note_line first) (notes_text notes) (note_line note))
+notes_text-push (first ∷ notes) note = ap (λ text. note_line first ++ text) (notes_text-push notes note)
+    ∙ sym (append_assoc (note_line first) (notes_text notes) (note_line note))

@@ -18,7 +18,8 @@ use Rattle.mail_notes.specs.Lines.{IsJobFileName, IsNote, IsNotedJob, flag_byte,
 use Rattle.mail_notes.specs.Notes.{number_of_note}
 
 digits_none : (number : ℕ) → number < 16 ^ 8 → HasNoNewline (digits_of number)
-digits_none number fits = none_of is_ascii_alphanumeric 10 (digits_of number) refl (are_alphanumeric (digits_of number) number (digits_spelled number fits))
+digits_none number fits =
+    none_of is_ascii_alphanumeric 10 (digits_of number) refl (are_alphanumeric (digits_of number) number (digits_spelled number fits))
 
 file_none : (number : ℕ) (file : List ℕ) → IsJobFileName number file → HasNoNewline file
 file_none number file of = none_of is_name_byte 10 file refl (job_is_name file of.queue number of.minute of.new_form of.spelled).each
@@ -51,6 +52,7 @@ text_none (Dropped number) tail = tail
 pub notes_can_be_written : NotesCanBeWritten
 notes_can_be_written note of = record {
   line = note_text note;
-  whole = text_none note (both_none (digits_of (number_of_note note)) (rest_text note) (digits_none (number_of_note note) (fits_of note of)) (rest_none note of));
+  whole = text_none note (both_none (digits_of (number_of_note note)) (rest_text note)
+      (digits_none (number_of_note note) (fits_of note of)) (rest_none note of));
   spelled = record { is = refl; of = of };
 }

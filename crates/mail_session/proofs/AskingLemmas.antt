@@ -31,10 +31,12 @@ after_next [] answers answer below = absurd (omega arith)
 after_next (kid ∷ kids) [] None below = ap (λ (l : List Kid). kid ∷ l) (after_none kids)
 after_next (kid ∷ kids) [] (Some ending) below = after_none kids
 after_next (kid ∷ kids) (None ∷ answers) None below = ap (λ (l : List Kid). kid ∷ l) (after_next kids answers None (omega arith))
-after_next (kid ∷ kids) (None ∷ answers) (Some ending) below = ap (λ (l : List Kid). kid ∷ l) (after_next kids answers (Some ending) (omega arith))
+after_next (kid ∷ kids) (None ∷ answers) (Some ending) below =
+    ap (λ (l : List Kid). kid ∷ l) (after_next kids answers (Some ending) (omega arith))
 after_next (kid ∷ kids) (Some one ∷ answers) answer below = after_next kids answers answer (omega arith)
 
-place_next : (answers : List (Option Ending)) (answer : Option Ending) → count_staying (answers ++ answer ∷ []) ≡ place_by (count_staying answers) answer
+place_next : (answers : List (Option Ending)) (answer : Option Ending)
+    → count_staying (answers ++ answer ∷ []) ≡ place_by (count_staying answers) answer
 place_next [] None = omega arith
 place_next [] (Some ending) = refl
 place_next (None ∷ answers) None = omega (arith, place_next answers None)
@@ -79,18 +81,22 @@ none_asked tells kids world = record {
   counted = refl;
   placed = refl;
   left_are = sym (after_none kids);
-  asked = λ known. sym (ap (with_asked world) (ap (λ (l : List Asked). world.asked ++ l) (questions_of_none kids) ∙ append-nil world.asked));
+  asked =
+      λ known. sym (ap (with_asked world) (ap (λ (l : List Asked). world.asked ++ l) (questions_of_none kids) ∙ append-nil world.asked));
 }
 
 -- the next one exists
-pub place_inside : (tells : Bool) (kids : List Kid) (count place : ℕ) (left : List Kid) (old new : World) → HasAsked tells kids count place left old new →
+pub place_inside : (tells : Bool) (kids : List Kid) (count place : ℕ) (left : List Kid) (old new : World)
+    → HasAsked tells kids count place left old new →
     count < length kids → place < length left
 place_inside tells kids count place left old new has below =
     omega (arith, has.counted, has.placed, ap length has.left_are, lengths kids has.answers (omega (arith, has.counted)))
 
-pub one_asked : (tells : Bool) (kids : List Kid) (count place next : ℕ) (left last : List Kid) (old middle new : World) (kid : Kid) (answer : Option Ending) →
+pub one_asked : (tells : Bool) (kids : List Kid) (count place next : ℕ) (left last : List Kid) (old middle new : World) (kid : Kid)
+    (answer : Option Ending) →
     count < length kids → HasAsked tells kids count place left old middle → kid ≡ get_or left place kid → next ≡ place_by place answer →
-    last ≡ kids_left_by left place answer → (tells ≡ true → Asks kid.child middle new (Ok answer)) → HasAsked tells kids (count + 1) next last old new
+    last ≡ kids_left_by left place answer → (tells ≡ true → Asks kid.child middle new (Ok answer))
+    → HasAsked tells kids (count + 1) next last old new
 one_asked tells kids count place next left last old middle new kid answer below has at next_is last_is asks =
     let below_now : length has.answers < length kids = omega (arith, has.counted) in
     let at_now : kid ≡ get_or (kids_after kids has.answers) (count_staying has.answers) kid =
@@ -100,7 +106,8 @@ one_asked tells kids count place next left last old middle new kid answer below 
       counted = omega (arith, has.counted, length-append has.answers (answer ∷ []));
       placed = next_is ∙ ap (λ (n : ℕ). place_by n answer) has.placed ∙ sym (place_next has.answers answer);
       left_are = last_is ∙ ap (λ (l : List Kid). kids_left_by l place answer) has.left_are
-          ∙ ap (λ (n : ℕ). kids_left_by (kids_after kids has.answers) n answer) has.placed ∙ sym (after_next kids has.answers answer below_now);
+          ∙ ap (λ (n : ℕ). kids_left_by (kids_after kids has.answers) n answer) has.placed
+          ∙ sym (after_next kids has.answers answer below_now);
       asked = λ known.
           (asks known).0
           ∙ ap (λ (world : World). with_asked world (world.asked ++ record { child = kid.child; answer = answer } ∷ [])) (has.asked known)
@@ -112,11 +119,19 @@ one_asked tells kids count place next left last old middle new kid answer below 
 pub all_asked : {E : Type 0} (tells : Bool) (kids : List Kid) (count place : ℕ) (left : List Kid) (old new : World) → count ≡ length kids →
     HasAsked tells kids count place left old new → AsksKids {E = E} tells kids left old new (Ok tt)
 all_asked tells kids count place left old new whole has =
-    record { answers = has.answers; few = omega (arith, has.counted, whole); all = has.counted ∙ whole; left_are = has.left_are; asked = has.asked }
+    record {
+      answers = has.answers;
+      few = omega (arith, has.counted, whole);
+      all = has.counted ∙ whole;
+      left_are = has.left_are;
+      asked = has.asked;
+    }
 
 -- the next one could not be asked
-pub some_asked : {E : Type 0} (tells : Bool) (kids : List Kid) (count place : ℕ) (left : List Kid) (old middle new : World) (fault : E) (result : Result (Unit {0}) E) →
-    IsErrAnd result (λ other. other ≡ fault) → count < length kids → HasAsked tells kids count place left old middle → (tells ≡ true → new ≡ middle) →
+pub some_asked : {E : Type 0} (tells : Bool) (kids : List Kid) (count place : ℕ) (left : List Kid) (old middle new : World) (fault : E)
+    (result : Result (Unit {0}) E) →
+    IsErrAnd result (λ other. other ≡ fault) → count < length kids → HasAsked tells kids count place left old middle
+    → (tells ≡ true → new ≡ middle) →
     AsksKids {E = E} tells kids left old new result
 some_asked tells kids count place left old middle new fault (Ok done) is below has same = absurd is
 some_asked tells kids count place left old middle new fault (Err other) is below has same = record {
@@ -135,7 +150,8 @@ kids_among (first ∷ kids) (None ∷ answers) kid (inl same) = inl same
 kids_among (first ∷ kids) (None ∷ answers) kid (inr has) = inr (kids_among kids answers kid has)
 kids_among (first ∷ kids) (Some ending ∷ answers) kid has = inr (kids_among kids answers kid has)
 
-pub child_held : (was now : List Child) (tells : Bool) (kids : List Kid) (count place : ℕ) (left : List Kid) (old new : World) → HasAsked tells kids count place left old new →
+pub child_held : (was now : List Child) (tells : Bool) (kids : List Kid) (count place : ℕ) (left : List Kid) (old new : World)
+    → HasAsked tells kids count place left old new →
     AreChildren was kids → now ≡ was → place < length left → (kid : Kid) → kid ≡ get_or left place kid → Contains now kid.child
 child_held was now tells kids count place left old new has are same inside kid at =
     let among : Contains (kids_after kids has.answers) kid =

@@ -42,8 +42,10 @@ abbrev nothing : MailPart
 nothing = record { made = []; next = []; added = [] }
 
 -- the files that are left over may be removed
-pub may_clear : (opened : World) (kids : List Kid) (plan : MailPlan) → MayRunPlan opened kids plan → AreFiles plan.stale.items (reading opened)
-may_clear opened kids plan may = subst (λ (names : List (List ℕ)). AreFiles names (reading opened)) (sym may.stale) (stale_are_files kids (reading opened))
+pub may_clear : (opened : World) (kids : List Kid) (plan : MailPlan) → MayRunPlan opened kids plan
+    → AreFiles plan.stale.items (reading opened)
+may_clear opened kids plan may =
+    subst (λ (names : List (List ℕ)). AreFiles names (reading opened)) (sym may.stale) (stale_are_files kids (reading opened))
 
 module _ (tells : Bool) (before between : Session) (old cleared : World) (plan : MailPlan) (kids : List Kid) (sent : List ℕ)
     (may : tells ≡ true → MayRunPlan old kids plan)
@@ -56,7 +58,8 @@ module _ (tells : Bool) (before between : Session) (old cleared : World) (plan :
   temp known some = subst (λ (names : List (List ℕ)). Contains names mail_temp) (sym (may known).stale) (temp_among kids (reading old) some)
 
   -- a file could not be removed
-  pub clear_stops : (program : List ℕ) (fault : HostFault) (result : Result (Unit {0}) HostFault) → IsErrAnd result (λ other. other ≡ fault) → CallsInside {T = Unit {0}} Failed before between (Err fault) →
+  pub clear_stops : (program : List ℕ) (fault : HostFault) (result : Result (Unit {0}) HostFault) → IsErrAnd result (λ other. other ≡ fault)
+      → CallsInside {T = Unit {0}} Failed before between (Err fault) →
       RunsPlan program tells before between old cleared plan kids kids sent sent result
   clear_stops program fault (Ok done) is inside = absurd is
   clear_stops program fault (Err other) is inside =
@@ -90,9 +93,11 @@ module _ (tells : Bool) (before between : Session) (old cleared : World) (plan :
 
   module _ (inside : CallsInside {T = Unit {0}} Failed before between (Ok tt))
       (gone : tells ≡ true → plan.stale.items ≢ [] → AreCleared plan.stale.items old.now.directory cleared.now.directory) where
-    pub is_cleared : (known : tells ≡ true) (notes : List Note) (table : JobTable) (start : World) → AreNotesOpened notes table start old → IsCleared notes table start cleared
+    pub is_cleared : (known : tells ≡ true) (notes : List Note) (table : JobTable) (start : World) → AreNotesOpened notes table start old
+        → IsCleared notes table start cleared
     is_cleared known notes table start is_opened =
-        leftovers_are_cleared notes table plan.stale.items start old cleared is_opened (of_mail known) (temp known) (changes known) (gone known)
+        leftovers_are_cleared notes table plan.stale.items start old cleared is_opened (of_mail known) (temp known)
+        (changes known) (gone known)
 
     -- nothing is in the way of the steps
     pub no_temp_left : tells ≡ true → IsInNoImage cleared.now.directory mail_temp
@@ -100,22 +105,27 @@ module _ (tells : Bool) (before between : Session) (old cleared : World) (plan :
 
     clearing_of : (known : tells ≡ true) → IsClearing plan.stale.items old.now.directory (reading cleared)
     clearing_of known = changes_end (IsClearing plan.stale.items old.now.directory) old cleared (changes known)
-        (λ one was. record { alone = left_alone (Contains plan.stale.items) old.now.directory one was; less = λ name. inl refl }) (reading cleared) (reading_is_image cleared.now.directory)
+        (λ one was. record { alone = left_alone (Contains plan.stale.items) old.now.directory one was; less = λ name. inl refl })
+        (reading cleared) (reading_is_image cleared.now.directory)
 
     -- a notice of a child stays
-    notice_kept : (known : tells ≡ true) (notes : List Note) (table : JobTable) (start : World) → AreNotesOpened notes table start old → (number : ℕ) → Fits number → has_kid kids number ≡ true →
+    notice_kept : (known : tells ≡ true) (notes : List Note) (table : JobTable) (start : World) → AreNotesOpened notes table start old
+        → (number : ℕ) → Fits number → has_kid kids number ≡ true →
         finite.get (reading cleared) (notice_file number) ≡ finite.get (reading old) (notice_file number)
     notice_kept known notes table start is number fits has =
         let clearing = clearing_of known in
         clearing.alone.others (notice_file number) (λ among. never (sym (stale_there kids (reading old) (notice_file number)
-        (subst (λ (names : List (List ℕ)). Contains names (notice_file number)) (may known).stale among)).1 ∙ notice_is_stale kids number fits ∙ ap not has))
+        (subst (λ (names : List (List ℕ)). Contains names (notice_file number)) (may known).stale among)).1
+        ∙ notice_is_stale kids number fits ∙ ap not has))
         ∙ is.durable clearing.alone.from clearing.alone.was (notice_file number) (inr (inr (number, refl))) where
           never : true ≡ false → ⊥
           never bad = cc
 
     -- and one that belongs to none is gone
-    notice_gone : (known : tells ≡ true) (notes : List Note) (table : JobTable) (start : World) → AreNotesOpened notes table start old → (number : ℕ) → Fits number → has_kid kids number ≡ false →
-        (held : Option (List ℕ)) → finite.get (reading old) (notice_file number) ≡ held → finite.get (reading cleared) (notice_file number) ≡ None
+    notice_gone : (known : tells ≡ true) (notes : List Note) (table : JobTable) (start : World) → AreNotesOpened notes table start old
+        → (number : ℕ) → Fits number → has_kid kids number ≡ false →
+        (held : Option (List ℕ)) → finite.get (reading old) (notice_file number) ≡ held
+        → finite.get (reading cleared) (notice_file number) ≡ None
     notice_gone known notes table start is number fits lacks None none =
         let clearing = clearing_of known in
         elim (clearing.less (notice_file number)) [
@@ -125,11 +135,14 @@ module _ (tells : Bool) (before between : Session) (old cleared : World) (plan :
     notice_gone known notes table start is number fits lacks (Some bytes) there =
         let among : Contains plan.stale.items (notice_file number) =
         subst (λ (names : List (List ℕ)). Contains names (notice_file number)) (sym (may known).stale)
-        (stale_among kids (reading old) (notice_file number) (subst IsSome (sym there) refl) (notice_is_stale kids number fits ∙ ap not lacks)) in
-        (gone known (λ none. has_contained [] (notice_file number) (subst (λ (names : List (List ℕ)). Contains names (notice_file number)) none among))).gone
+        (stale_among kids (reading old) (notice_file number) (subst IsSome (sym there) refl)
+        (notice_is_stale kids number fits ∙ ap not lacks)) in
+        (gone known (λ none.
+        has_contained [] (notice_file number) (subst (λ (names : List (List ℕ)). Contains names (notice_file number)) none among))).gone
         (notice_file number) among (reading cleared) (reading_is_image cleared.now.directory)
 
-    reads_notices : (known : tells ≡ true) (notes : List Note) (table : JobTable) (start : World) → AreNotesOpened notes table start old → (numbers : List ℕ) (new : World) →
+    reads_notices : (known : tells ≡ true) (notes : List Note) (table : JobTable) (start : World) → AreNotesOpened notes table start old
+        → (numbers : List ℕ) (new : World) →
         ReadsBeside numbers cleared new → ReadsNotices kids numbers old new
     reads_notices known notes table start is numbers new reads = record {
       placed = reads.placed;
@@ -144,11 +157,15 @@ module _ (tells : Bool) (before between : Session) (old cleared : World) (plan :
     run_then : {new : World} (more : List Moment) → moments new ≡ more ++ moments cleared → (known : tells ≡ true) → GoesFurther old new
     run_then more run known = record {
       more = more ++ (changes known).leaves.more;
-      run = run ∙ ap (λ (l : List Moment). more ++ l) (changes known).leaves.run ∙ sym (append_assoc more (changes known).leaves.more (moments old));
+      run = run ∙ ap (λ (l : List Moment). more ++ l) (changes known).leaves.run
+          ∙ sym (append_assoc more (changes known).leaves.more (moments old));
     }
 
-    carries_by : (of : Mailing) (notes : List Note) (table : JobTable) (start new : World) (part : MailPart) (answers : List (Option Ending)) → tells ≡ true → AreNotesOpened notes table start old → IsCleared notes table start cleared →
-        (result : Result (Unit {0}) HostFault) → IfOk result (λ done. ReadsBeside (sent_numbers part.made) cleared new) → GivesAsked of notes part (questions kids answers) cleared new result → CarriesTo of notes table kids part (questions kids answers) start old new result
+    carries_by : (of : Mailing) (notes : List Note) (table : JobTable) (start new : World) (part : MailPart)
+        (answers : List (Option Ending)) → tells ≡ true → AreNotesOpened notes table start old → IsCleared notes table start cleared →
+        (result : Result (Unit {0}) HostFault) → IfOk result (λ done. ReadsBeside (sent_numbers part.made) cleared new)
+        → GivesAsked of notes part (questions kids answers) cleared new result
+        → CarriesTo of notes table kids part (questions kids answers) start old new result
     carries_by of notes table start new part answers known is_opened is (Ok done) reads gives =
         let made : AreNotesMade of notes part.made gives.given (questions kids answers) cleared new = gives.ends in
         record {
@@ -162,7 +179,8 @@ module _ (tells : Bool) (before between : Session) (old cleared : World) (plan :
           alone = λ image of_it.
               let now = made.alone image of_it in
               let clearing = changes_end (IsClearing plan.stale.items old.now.directory) old cleared (changes known)
-              (λ one was. record { alone = left_alone (Contains plan.stale.items) old.now.directory one was; less = λ name. inl refl }) now.from now.was in
+              (λ one was. record { alone = left_alone (Contains plan.stale.items) old.now.directory one was; less = λ name. inl refl })
+              now.from now.was in
               record {
                 from = clearing.alone.from;
                 was = clearing.alone.was;
@@ -176,7 +194,8 @@ module _ (tells : Bool) (before between : Session) (old cleared : World) (plan :
         record {
           given = gives.given;
           numbered = gives.numbered;
-          posted = stopped_sessions_post of notes part.made part.next gives.given (questions kids answers) table start cleared new is stopped;
+          posted =
+              stopped_sessions_post of notes part.made part.next gives.given (questions kids answers) table start cleared new is stopped;
           handed = stopped.handed ∙ ap (λ (l : List Handed). l ++ gives.given) (changes known).handed;
           hands = stopped.hands;
           asked_are = stopped.asked ∙ ap (λ (l : List Asked). l ++ questions kids answers) (changes known).asked;
@@ -187,8 +206,10 @@ module _ (tells : Bool) (before between : Session) (old cleared : World) (plan :
         }
 
     -- the steps were made, or the first of them
-    pub carried : (program : List ℕ) (after : Session) (new : World) (left : List Kid) (more : List ℕ) (result : Result (Unit {0}) HostFault) →
-        Makes program tells between after cleared new plan kids left sent more result → RunsPlan program tells before after old new plan kids left sent more result
+    pub carried : (program : List ℕ) (after : Session) (new : World) (left : List Kid) (more : List ℕ)
+        (result : Result (Unit {0}) HostFault) →
+        Makes program tells between after cleared new plan kids left sent more result
+        → RunsPlan program tells before after old new plan kids left sent more result
     carried program after new left more result makes = record {
       part = makes.part;
       answers = makes.answers;
@@ -199,7 +220,8 @@ module _ (tells : Bool) (before between : Session) (old cleared : World) (plan :
           later = omega (arith, inside.stays.counts.file_faults, makes.goes.counts.file_faults);
           rose = λ bad. omega (arith, inside.stays.counts.file_faults, makes.goes.cause.rose bad);
         };
-        children = makes.goes.children ∙ ap (λ (l : List Child). l ++ map (λ (kid : Kid). kid.child) makes.part.added) inside.stays.children;
+        children = makes.goes.children
+            ∙ ap (λ (l : List Child). l ++ map (λ (kid : Kid). kid.child) makes.part.added) inside.stays.children;
         few = makes.goes.few;
         prefix = makes.goes.prefix;
         all = makes.goes.all;
@@ -208,5 +230,6 @@ module _ (tells : Bool) (before between : Session) (old cleared : World) (plan :
       };
       files = λ known of notes table start same is_opened text_is due.
           let is = is_cleared known notes table start is_opened in
-          carries_by of notes table start new makes.part makes.answers known is_opened is result (makes.reads known) (makes.files known of notes same is.ready text_is due);
+          carries_by of notes table start new makes.part makes.answers known is_opened is result (makes.reads known)
+          (makes.files known of notes same is.ready text_is due);
     }

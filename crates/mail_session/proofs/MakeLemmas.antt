@@ -46,12 +46,14 @@ questions_make_no_note of notes kids answers world ready =
       asked = refl;
     }
 
-asked_at : (of : Mailing) (notes : List Note) (kids : List Kid) (answers : List (Option Ending)) (old new : World) → HoldsNotesAlone notes old.now.directory →
+asked_at : (of : Mailing) (notes : List Note) (kids : List Kid) (answers : List (Option Ending)) (old new : World)
+    → HoldsNotesAlone notes old.now.directory →
     new ≡ asked_besides kids answers old → AreNotesMade of notes [] [] (questions kids answers) old new
 asked_at of notes kids answers old new ready is =
     subst (AreNotesMade of notes [] [] (questions kids answers) old) (sym is) (questions_make_no_note of notes kids answers old ready)
 
-asked_stopped : (of : Mailing) (notes : List Note) (kids : List Kid) (answers : List (Option Ending)) (old new : World) → HoldsNotesAlone notes old.now.directory →
+asked_stopped : (of : Mailing) (notes : List Note) (kids : List Kid) (answers : List (Option Ending)) (old new : World)
+    → HoldsNotesAlone notes old.now.directory →
     new ≡ asked_besides kids answers old → AreNotesStopped of notes [] [] [] (questions kids answers) old new
 asked_stopped of notes kids answers old new ready is =
     let made = questions_make_no_note of notes kids answers old ready in
@@ -71,7 +73,8 @@ sent_after_noting (job ∷ new_jobs) made = sent_after_noting new_jobs made
 abbrev nothing : MailPart
 nothing = record { made = []; next = []; added = [] }
 
-module _ (program : List ℕ) (tells : Bool) (before between : Session) (old asked : World) (plan : MailPlan) (kids left : List Kid) (sent : List ℕ)
+module _ (program : List ℕ) (tells : Bool) (before between : Session) (old asked : World) (plan : MailPlan)
+    (kids left : List Kid) (sent : List ℕ)
     (stays : StaysInside before between) where
   abbrev new_jobs : List NotedJob
   new_jobs = plan.new_jobs.items
@@ -83,7 +86,8 @@ module _ (program : List ℕ) (tells : Bool) (before between : Session) (old ask
   noting = noting_of new_jobs
 
   -- memory ran out for a question
-  pub ask_wants : (result : Result (Unit {0}) HostFault) → IsErrAnd result (λ other. other ≡ Memory) → {E : Type 0} (of_ask : Result (Unit {0}) E) → AsksKids {E = E} tells kids left old asked of_ask →
+  pub ask_wants : (result : Result (Unit {0}) HostFault) → IsErrAnd result (λ other. other ≡ Memory)
+      → {E : Type 0} (of_ask : Result (Unit {0}) E) → AsksKids {E = E} tells kids left old asked of_ask →
       Makes program tells before between old asked plan kids left sent sent result
   ask_wants (Ok done) is of_ask asks = absurd is
   ask_wants (Err fault) is of_ask asks =
@@ -110,11 +114,13 @@ module _ (program : List ℕ) (tells : Bool) (before between : Session) (old ask
       })
 
   module _ {E : Type 0} (asks : AsksKids {E = E} tells kids left old asked (Ok tt)) (then : Session) (noted : World) where
-    text_after : (of : Mailing) (notes : List Note) → plan.text.items ≡ notes_text (notes ++ noting) → plan.text.items ≡ notes_text ((notes ++ []) ++ noting)
+    text_after : (of : Mailing) (notes : List Note) → plan.text.items ≡ notes_text (notes ++ noting)
+        → plan.text.items ≡ notes_text ((notes ++ []) ++ noting)
     text_after of notes is = is ∙ ap (λ (l : List Note). notes_text (l ++ noting)) (sym (append-nil notes))
 
     -- the new jobs could not be noted
-    pub note_stops : (fault : HostFault) (result : Result (Unit {0}) HostFault) → IsErrAnd result (λ other. other ≡ fault) → Notes tells between then asked noted new_jobs plan.text.items (Err fault) →
+    pub note_stops : (fault : HostFault) (result : Result (Unit {0}) HostFault) → IsErrAnd result (λ other. other ≡ fault)
+        → Notes tells between then asked noted new_jobs plan.text.items (Err fault) →
         Makes program tells before then old noted plan kids left sent sent result
     note_stops fault (Ok done) is notes_them = absurd is
     note_stops fault (Err other) is notes_them =
@@ -138,39 +144,51 @@ module _ (program : List ℕ) (tells : Bool) (before between : Session) (old ask
           reads = λ known. tt;
           files = λ known of notes same ready text_is due.
               let made = asked_at of notes kids asks.answers old asked ready (asks.asked known) in
-              let stopped : AreNotesStopped of (notes ++ []) [] noting [] [] asked noted = notes_them.files known of (notes ++ []) made.ready (text_after of notes text_is) in
+              let stopped : AreNotesStopped of (notes ++ []) [] noting [] [] asked noted =
+              notes_them.files known of (notes ++ []) made.ready (text_after of notes text_is) in
               record {
                 given = [];
                 numbered = refl;
-                ends = subst (λ (l : List Asked). AreNotesStopped of notes [] noting [] l old noted) (append-nil (questions kids asks.answers))
+                ends =
+                    subst (λ (l : List Asked). AreNotesStopped of notes [] noting [] l old noted) (append-nil (questions kids asks.answers))
                     (notes_are_stopped_after of notes [] [] noting [] [] (questions kids asks.answers) [] old asked noted made stopped);
               };
         })
 
-    module _ (notes_them : Notes tells between then asked noted new_jobs plan.text.items (Ok tt)) (after : Session) (new : World) (gone is : List ℕ) (more : List Kid)
-        (result : Result (Unit {0}) HostFault) (posts : Posts program tells then after noted new due_notices plan.text.items is left more sent gone result) where
-      noted_so : (of : Mailing) (notes : List Note) → tells ≡ true → HoldsNotesAlone notes old.now.directory → plan.text.items ≡ notes_text (notes ++ noting) →
+    module _ (notes_them : Notes tells between then asked noted new_jobs plan.text.items (Ok tt)) (after : Session) (new : World)
+        (gone is : List ℕ) (more : List Kid)
+        (result : Result (Unit {0}) HostFault)
+        (posts : Posts program tells then after noted new due_notices plan.text.items is left more sent gone result) where
+      noted_so : (of : Mailing) (notes : List Note) → tells ≡ true → HoldsNotesAlone notes old.now.directory
+          → plan.text.items ≡ notes_text (notes ++ noting) →
           AreNotesMade of notes noting [] (questions kids asks.answers) old noted
       noted_so of notes known ready text_is =
           let made = asked_at of notes kids asks.answers old asked ready (asks.asked known) in
-          let now : AreNotesMade of (notes ++ []) noting [] [] asked noted = notes_them.files known of (notes ++ []) made.ready (text_after of notes text_is) in
+          let now : AreNotesMade of (notes ++ []) noting [] [] asked noted =
+          notes_them.files known of (notes ++ []) made.ready (text_after of notes text_is) in
           subst (λ (l : List Asked). AreNotesMade of notes noting [] l old noted) (append-nil (questions kids asks.answers))
           (notes_are_made_after of notes [] noting [] [] (questions kids asks.answers) [] old asked noted made now)
 
       reads_asked : tells ≡ true → ReadsBeside [] old noted
-      reads_asked known = subst (λ (from : World). ReadsBeside [] from noted → ReadsBeside [] old noted) (sym (asks.asked known)) (λ reads. record { placed = reads.placed; stay = reads.stay }) (notes_them.reads known)
+      reads_asked known = subst (λ (from : World). ReadsBeside [] from noted → ReadsBeside [] old noted) (sym (asks.asked known))
+          (λ reads. record { placed = reads.placed; stay = reads.stay }) (notes_them.reads known)
 
       abbrev whole : MailPart
       whole = record { made = noting ++ posts.part.made; next = posts.part.next; added = posts.part.added }
 
-      ends_so : (of : Mailing) (notes : List Note) → AreNotesMade of notes noting [] (questions kids asks.answers) old noted → (one : Result (Unit {0}) HostFault) (gives : SendsPart of (notes ++ noting) posts.part noted new one) →
+      ends_so : (of : Mailing) (notes : List Note) → AreNotesMade of notes noting [] (questions kids asks.answers) old noted
+          → (one : Result (Unit {0}) HostFault) (gives : SendsPart of (notes ++ noting) posts.part noted new one) →
           NotesMakingEnds of notes whole gives.given (questions kids asks.answers) old new one
       ends_so of notes made (Ok done) gives =
-          subst (λ (l : List Asked). AreNotesMade of notes (noting ++ posts.part.made) gives.given l old new) (append-nil (questions kids asks.answers))
-          (notes_are_made_after of notes noting posts.part.made [] gives.given (questions kids asks.answers) [] old noted new made gives.ends)
+          subst (λ (l : List Asked). AreNotesMade of notes (noting ++ posts.part.made) gives.given l old new)
+          (append-nil (questions kids asks.answers))
+          (notes_are_made_after of notes noting posts.part.made [] gives.given (questions kids asks.answers) [] old
+          noted new made gives.ends)
       ends_so of notes made (Err fault) gives =
-          subst (λ (l : List Asked). AreNotesStopped of notes (noting ++ posts.part.made) posts.part.next gives.given l old new) (append-nil (questions kids asks.answers))
-          (notes_are_stopped_after of notes noting posts.part.made posts.part.next [] gives.given (questions kids asks.answers) [] old noted new made gives.ends)
+          subst (λ (l : List Asked). AreNotesStopped of notes (noting ++ posts.part.made) posts.part.next gives.given l old new)
+          (append-nil (questions kids asks.answers))
+          (notes_are_stopped_after of notes noting posts.part.made posts.part.next [] gives.given (questions kids asks.answers) [] old
+          noted new made gives.ends)
 
       all_so : (one : Result (Unit {0}) HostFault) → IfOk one (λ done. posts.part.made ≡ notes_of due_notices) →
           IfOk one (λ done. (noting ++ posts.part.made ≡ steps_by plan) × (length asks.answers ≡ length kids))
@@ -189,7 +207,8 @@ module _ (program : List ℕ) (tells : Bool) (before between : Session) (old ask
             later = omega (arith, stays.counts.file_faults, notes_them.inside.stays.counts.file_faults, posts.counts.file_faults);
             rose = λ bad. omega (arith, stays.counts.file_faults, notes_them.inside.stays.counts.file_faults, posts.cause.rose bad);
           };
-          children = posts.children ∙ ap (λ (l : List Child). l ++ map (λ (kid : Kid). kid.child) posts.part.added) (notes_them.inside.stays.children ∙ stays.children);
+          children = posts.children ∙ ap (λ (l : List Child). l ++ map (λ (kid : Kid). kid.child) posts.part.added)
+              (notes_them.inside.stays.children ∙ stays.children);
           few = asks.few;
           prefix = (
             posts.prefix.0,
@@ -201,10 +220,12 @@ module _ (program : List ℕ) (tells : Bool) (before between : Session) (old ask
           kids_are = posts.kids_are ∙ ap (λ (l : List Kid). l ++ posts.part.added) asks.left_are;
           sent_are = posts.sent_are ∙ ap (λ (l : List ℕ). sent ++ l) (sym (sent_after_noting new_jobs posts.part.made));
         };
-        reads = λ known. subst (λ (l : List ℕ). IfOk result (λ done. ReadsBeside l old new)) (sym (sent_after_noting new_jobs posts.part.made))
+        reads =
+            λ known. subst (λ (l : List ℕ). IfOk result (λ done. ReadsBeside l old new)) (sym (sent_after_noting new_jobs posts.part.made))
             (reads_both [] (sent_numbers posts.part.made) old noted new result (reads_asked known) (posts.reads known));
         files = λ known of notes same ready text_is due.
             let made = noted_so of notes known ready text_is in
-            let gives : SendsPart of (notes ++ noting) posts.part noted new result = posts.files known of (notes ++ noting) same made.ready text_is due in
+            let gives : SendsPart of (notes ++ noting) posts.part noted new result =
+            posts.files known of (notes ++ noting) same made.ready text_is due in
             record { given = gives.given; numbered = gives.numbered; ends = ends_so of notes made result gives };
       }

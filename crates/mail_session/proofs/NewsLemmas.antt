@@ -30,7 +30,8 @@ use Rattle.step_runs.proofs.ApartLemmas.{each_all}
 use Rattle.mail_session.specs.News.{IsNotedFrom}
 
 -- two live jobs of one entry are one
-same_job : (one other : Job) (first second : JobState) → ◌≡◌ {A = Option JobEntry} (Some (Live one first)) (Some (Live other second)) → one ≡ other
+same_job : (one other : Job) (first second : JobState)
+    → ◌≡◌ {A = Option JobEntry} (Some (Live one first)) (Some (Live other second)) → one ≡ other
 same_job one other first second is = cc
 
 queue_of : (job other : Job) → other ≡ job_without_script job → other.queue ≡ job.queue
@@ -40,8 +41,10 @@ minute_of : (job other : Job) → other ≡ job_without_script job → other.min
 minute_of job other is = ap (λ (j : Job). j.minute) is
 
 -- what the store says of the file and of the header is what is noted
-pub noted_from : (kept : Kept) (directory : Directory) (table : JobTable) (number : ℕ) (file user : List ℕ) (always : Bool) → IsCurrent kept directory table →
-    IsLiveFileName kept.table kept.old_form number file → HoldsScript table directory number file → IsHeaderOn table number (record { user = user; mail = always }) →
+pub noted_from : (kept : Kept) (directory : Directory) (table : JobTable) (number : ℕ) (file user : List ℕ) (always : Bool)
+    → IsCurrent kept directory table →
+    IsLiveFileName kept.table kept.old_form number file → HoldsScript table directory number file
+    → IsHeaderOn table number (record { user = user; mail = always }) →
     IsNotedFrom (reading_of directory) table (record { number = number; file = file; always = always; user = user })
 noted_from kept directory table number file user always current of holds header =
     let script = holds.script in
@@ -62,7 +65,8 @@ noted_from kept directory table number file user always current of holds header 
     }
 
 -- by the state of a number, some note is of it or none
-pub named_by : (notes : List Note) (number : ℕ) (held : Option NoticeState) → IsNoticeStateAt notes number held → is_some held ≡ has_note_of number notes
+pub named_by : (notes : List Note) (number : ℕ) (held : Option NoticeState) → IsNoticeStateAt notes number held
+    → is_some held ≡ has_note_of number notes
 named_by notes number None none = sym none
 named_by notes number (Some (Waits job)) waiting = sym (saying_names (is_note_of number) is_noting notes waiting.is_noted)
 named_by notes number (Some Closed) closed = sym (saying_names (is_note_of number) is_noting notes closed.is_noted)
@@ -88,11 +92,13 @@ copied_some (Some one) = refl
 pub kept_all : {X : Type 0} (P : X → Type 0) (tests : List Bool) (xs : List X) → All P xs → All P (items_where_true tests xs)
 kept_all P [] xs all = All-nil P
 kept_all P (test ∷ tests) [] all = All-nil P
-kept_all P (true ∷ tests) (x ∷ xs) all = All-cons P x (items_where_true tests xs) (All-head P x xs all) (kept_all P tests xs (All-tail P x xs all))
+kept_all P (true ∷ tests) (x ∷ xs) all =
+    All-cons P x (items_where_true tests xs) (All-head P x xs all) (kept_all P tests xs (All-tail P x xs all))
 kept_all P (false ∷ tests) (x ∷ xs) all = kept_all P tests xs (All-tail P x xs all)
 
 -- one more number
-pub number_more : (numbers : List ℕ) (place : ℕ) (number : ℕ) (new_jobs after : List NotedJob) (job : NotedJob) → place < length numbers → number ≡ get_or numbers place number →
+pub number_more : (numbers : List ℕ) (place : ℕ) (number : ℕ) (new_jobs after : List NotedJob) (job : NotedJob) → place < length numbers
+    → number ≡ get_or numbers place number →
     map (λ (one : NotedJob). one.number) new_jobs ≡ take place numbers → after ≡ new_jobs ++ job ∷ [] → job.number ≡ number →
     map (λ (one : NotedJob). one.number) after ≡ take (place + 1) numbers
 number_more numbers place number new_jobs after job inside at so_far added number_is =
@@ -101,5 +107,6 @@ number_more numbers place number new_jobs after job inside at so_far added numbe
     ∙ sym (take_more numbers place number inside)
 
 -- one more job of which it holds
-pub one_more : (P : NotedJob → Type 0) (new_jobs after : List NotedJob) (job : NotedJob) → All P new_jobs → P job → after ≡ new_jobs ++ job ∷ [] → All P after
+pub one_more : (P : NotedJob → Type 0) (new_jobs after : List NotedJob) (job : NotedJob) → All P new_jobs → P job
+    → after ≡ new_jobs ++ job ∷ [] → All P after
 one_more P new_jobs after job all one added = subst (All P) (sym added) (All-push P new_jobs job all one)

@@ -50,7 +50,8 @@ no_lines (note ∷ later) spelled = absurd (never spelled.1.0.line spelled.0 spe
   never (byte ∷ line) rest is = cc
 
 -- the file has the notes that were read
-pub gives_notes : (held : Option (List ℕ)) (text : List ℕ) (notes : List Note) → AreRecordLines SpellsNote IsNoteAllowed text notes → IsTextOf held text → GivesNotes held notes
+pub gives_notes : (held : Option (List ℕ)) (text : List ℕ) (notes : List Note) → AreRecordLines SpellsNote IsNoteAllowed text notes
+    → IsTextOf held text → GivesNotes held notes
 gives_notes None text notes lines is = no_lines notes (subst (λ (bytes : List ℕ). AreSpelled SpellsNote bytes notes) is lines.spelled)
 gives_notes (Some bytes) text notes lines is = subst (λ (of : List ℕ). AreRecordLines SpellsNote IsNoteAllowed of notes) is lines
 
@@ -62,13 +63,16 @@ holds_notes (Some bytes) notes lines = note_files_are_texts bytes notes lines.sp
 -- What is planned.
 
 pub plan_for : (table : JobTable) (plan : MailPlan) (text : List ℕ) (notice_states : NoticeStates) (read : IsReadBook text notice_states) →
-    ((notes : List Note) → AreStatesOfNotes notes notice_states → map (λ (job : NotedJob). job.number) plan.new_jobs.items ≡ new_numbers table notes) →
-    ((notes : List Note) → AreStatesOfNotes notes notice_states → AreDuesOf table notes plan.due_notices.items) → plan.text.items ≡ text ++ notes_text (noting_of plan.new_jobs.items) →
+    ((notes : List Note) → AreStatesOfNotes notes notice_states
+    → map (λ (job : NotedJob). job.number) plan.new_jobs.items ≡ new_numbers table notes) →
+    ((notes : List Note) → AreStatesOfNotes notes notice_states → AreDuesOf table notes plan.due_notices.items)
+    → plan.text.items ≡ text ++ notes_text (noting_of plan.new_jobs.items) →
     IsPlanFor table read.notes plan
 plan_for table plan text notice_states read numbers due_notices text_is = record {
   numbers = numbers read.notes read.told;
   due_notices = due_notices read.notes read.told;
-  text = text_is ∙ ap (λ (t : List ℕ). t ++ notes_text (noting_of plan.new_jobs.items)) (note_files_are_texts text read.notes read.lines.spelled)
+  text = text_is
+      ∙ ap (λ (t : List ℕ). t ++ notes_text (noting_of plan.new_jobs.items)) (note_files_are_texts text read.notes read.lines.spelled)
       ∙ sym (lines_join read.notes (noting_of plan.new_jobs.items));
 }
 
@@ -76,7 +80,8 @@ plan_for table plan text notice_states read numbers due_notices text_is = record
 
 -- The plan by the recovery.
 
-shown_by_fault : (of : StoreFault) (old new : World) → ((damage : Damage) → of ≡ Damaged damage → reading new ≡ reading old) → IsReadingFault of → Recovered old.now.directory new.now.directory (Err of) → ShowsTheSame old.now.directory new.now.directory
+shown_by_fault : (of : StoreFault) (old new : World) → ((damage : Damage) → of ≡ Damaged damage → reading new ≡ reading old)
+    → IsReadingFault of → Recovered old.now.directory new.now.directory (Err of) → ShowsTheSame old.now.directory new.now.directory
 shown_by_fault FileFault old new untouched reads recovered = recovered
 shown_by_fault Memory old new untouched reads recovered = recovered
 shown_by_fault (Damaged damage) old new untouched reads recovered = ap shown_by (untouched damage refl)
@@ -90,7 +95,8 @@ damage_by_fault QueueFull old new recovered = tt
 damage_by_fault NumbersUsedUp old new recovered = tt
 
 -- the store could not be recovered
-pub unrecovered : (of : StoreFault) (old new : World) → IsReadingFault of → ChangesFiles (ShowsAsBefore old.now.directory) old new → Recovered old.now.directory new.now.directory (Err of) →
+pub unrecovered : (of : StoreFault) (old new : World) → IsReadingFault of → ChangesFiles (ShowsAsBefore old.now.directory) old new
+    → Recovered old.now.directory new.now.directory (Err of) →
     IfDamaged {T = Kept} Damaged (λ damage. reading new ≡ reading old) (Err of) → IsUnplanned old new of
 unrecovered of old new reads changes recovered untouched = record {
   changes = changes;
@@ -98,14 +104,17 @@ unrecovered of old new reads changes recovered untouched = record {
   damaged = damage_by_fault of old new recovered;
 }
 
-shown_still : (kept : Kept) (old opened : World) → IsRecovered old.now.directory opened.now.directory kept → ShowsTheSame old.now.directory opened.now.directory
+shown_still : (kept : Kept) (old opened : World) → IsRecovered old.now.directory opened.now.directory kept
+    → ShowsTheSame old.now.directory opened.now.directory
 shown_still kept old opened is = is.current.shows (reading opened) (reading_is_image opened.now.directory) ∙ sym is.shown
 
 -- the file of notes reads as before the recovery
-pub notes_as_before : (kept : Kept) (old opened : World) → IsRecovered old.now.directory opened.now.directory kept → finite.get (reading opened) mail_file ≡ finite.get (reading old) mail_file
+pub notes_as_before : (kept : Kept) (old opened : World) → IsRecovered old.now.directory opened.now.directory kept
+    → finite.get (reading opened) mail_file ≡ finite.get (reading old) mail_file
 notes_as_before kept old opened is = is.others mail_file (mail_is_none_of_the_stores mail_file (inl refl))
 
-damage_of_notes : (of : StoreFault) (kept : Kept) (old opened : World) → IsRecovered old.now.directory opened.now.directory kept → NotPlannedOn opened of → IfDamageOf old of
+damage_of_notes : (of : StoreFault) (kept : Kept) (old opened : World) → IsRecovered old.now.directory opened.now.directory kept
+    → NotPlannedOn opened of → IfDamageOf old of
 damage_of_notes FileFault kept old opened is damaged = tt
 damage_of_notes Memory kept old opened is damaged = tt
 damage_of_notes (Damaged damage) kept old opened is damaged =
@@ -114,27 +123,32 @@ damage_of_notes QueueFull kept old opened is damaged = tt
 damage_of_notes NumbersUsedUp kept old opened is damaged = tt
 
 -- and nothing can be planned on it
-pub unplanned : (of : StoreFault) (kept : Kept) (old opened : World) → ChangesFiles (ShowsAsBefore old.now.directory) old opened → IsRecovered old.now.directory opened.now.directory kept →
+pub unplanned : (of : StoreFault) (kept : Kept) (old opened : World) → ChangesFiles (ShowsAsBefore old.now.directory) old opened
+    → IsRecovered old.now.directory opened.now.directory kept →
     NotPlannedOn opened of → IsUnplanned old opened of
 unplanned of kept old opened changes is damaged =
     record { changes = changes; shown = shown_still kept old opened is; damaged = damage_of_notes of kept old opened is damaged }
 
 -- by what came of the recovery
 pub plans_by : (tells : Bool) (old opened new : World) (kept : Kept) (kids : List Kid) (result : Result MailPlan StoreFault) →
-    (tells ≡ true → ChangesFiles (ShowsAsBefore old.now.directory) old opened) → (tells ≡ true → IsRecovered old.now.directory opened.now.directory kept) →
+    (tells ≡ true → ChangesFiles (ShowsAsBefore old.now.directory) old opened)
+    → (tells ≡ true → IsRecovered old.now.directory opened.now.directory kept) →
     (tells ≡ true → new ≡ opened) → PlansOn tells opened kept kids result → Plans tells old new kids result
 plans_by tells old opened new kept kids (Ok plan) changes recovered looks on = record {
   kept = kept;
   plan_on = record {
     notes = on.notes;
     plan_for = on.plan_for;
-    plan_in = λ known. subst (λ (world : World). (table : JobTable) → IsCurrent kept world.now.directory table → IsPlanIn world table on.notes kids plan) (sym (looks known)) (on.plan_in known);
+    plan_in = λ known. subst (λ (world : World). (table : JobTable) → IsCurrent kept world.now.directory table
+        → IsPlanIn world table on.notes kids plan) (sym (looks known)) (on.plan_in known);
   };
   changes = λ known. subst (ChangesFiles (ShowsAsBefore old.now.directory) old) (sym (looks known)) (changes known);
-  recovered = λ known. subst (λ (world : World). IsRecovered old.now.directory world.now.directory kept) (sym (looks known)) (recovered known);
+  recovered =
+      λ known. subst (λ (world : World). IsRecovered old.now.directory world.now.directory kept) (sym (looks known)) (recovered known);
 }
 plans_by tells old opened new kept kids (Err fault) changes recovered looks on =
-    λ known. subst (λ (world : World). IsUnplanned old world fault) (sym (looks known)) (unplanned fault kept old opened (changes known) (recovered known) (on known))
+    λ known. subst (λ (world : World). IsUnplanned old world fault) (sym (looks known))
+    (unplanned fault kept old opened (changes known) (recovered known) (on known))
 
 -- What is due and new by the table with its scripts.
 
@@ -144,22 +158,27 @@ due_alike job (Some (Live live state)) = refl
 due_alike job (Some (Done fate)) = refl
 
 dues_alike : (table : JobTable) (jobs : List NotedJob) →
-    filter_map (λ (job : NotedJob). due_of_entry job (entry_at (without_scripts table) job.number)) jobs ≡ filter_map (λ (job : NotedJob). due_of_entry job (entry_at table job.number)) jobs
+    filter_map (λ (job : NotedJob). due_of_entry job (entry_at (without_scripts table) job.number)) jobs
+    ≡ filter_map (λ (job : NotedJob). due_of_entry job (entry_at table job.number)) jobs
 dues_alike table [] = refl
 dues_alike table (job ∷ later) =
-    ap (λ (one : Option NoticeDue). cons_option one (filter_map (λ (other : NotedJob). due_of_entry other (entry_at (without_scripts table) other.number)) later))
+    ap (λ (one : Option NoticeDue).
+    cons_option one (filter_map (λ (other : NotedJob). due_of_entry other (entry_at (without_scripts table) other.number)) later))
     (ap (due_of_entry job) (entries_are_without_scripts table job.number) ∙ due_alike job (entry_at table job.number))
     ∙ ap (λ (l : List NoticeDue). cons_option (due_of_entry job (entry_at table job.number)) l) (dues_alike table later)
 
-pub dues_on_the_table : (kept table : JobTable) (notes : List Note) (due_notices : List NoticeDue) → kept ≡ without_scripts table → AreDuesOf kept notes due_notices → AreDuesOf table notes due_notices
+pub dues_on_the_table : (kept table : JobTable) (notes : List Note) (due_notices : List NoticeDue) → kept ≡ without_scripts table
+    → AreDuesOf kept notes due_notices → AreDuesOf table notes due_notices
 dues_on_the_table kept table notes due_notices is are = record {
   jobs = are.jobs;
   waiting = are.waiting;
   dues_are = are.dues_are
-      ∙ ap (λ (t : JobTable). filter_map (λ (job : NotedJob). due_of_entry job (entry_at t job.number)) are.jobs) is ∙ dues_alike table are.jobs;
+      ∙ ap (λ (t : JobTable). filter_map (λ (job : NotedJob). due_of_entry job (entry_at t job.number)) are.jobs) is
+      ∙ dues_alike table are.jobs;
 }
 
-pub new_on_the_table : (kept table : JobTable) (notes : List Note) → kept ≡ without_scripts table → new_numbers kept notes ≡ new_numbers table notes
+pub new_on_the_table : (kept table : JobTable) (notes : List Note) → kept ≡ without_scripts table
+    → new_numbers kept notes ≡ new_numbers table notes
 new_on_the_table kept table notes is =
     ap (λ (t : JobTable). new_numbers t notes) is
     ∙ ap (λ (rows : List Row). filter (is_new notes) (map (λ (row : Row). row.number) rows)) (lists_as_on_the_table table).rows

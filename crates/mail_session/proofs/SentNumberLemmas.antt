@@ -32,7 +32,8 @@ use Rattle.mail_session.specs.Steps.{AreDuesOf, due_of_entry}
 use Rattle.mail_session.specs.inside.SessionWork.{steps_by}
 use Rattle.mail_session.proofs.PostLemmas.{sent_join}
 
-pub above : (number : ℕ) (others : List ℕ) → ((other : ℕ) → Has others other → number < other) → list_any (λ other. other == number) others ≡ false
+pub above : (number : ℕ) (others : List ℕ) → ((other : ℕ) → Has others other → number < other)
+    → list_any (λ other. other == number) others ≡ false
 above number [] each = refl
 above number (first ∷ others) each =
     let less : number < first = each first (inl refl) in
@@ -48,14 +49,16 @@ number_or None = 0
 number_or (Some due) = due_number due
 
 -- what is due of a job has its number
-pub number_due : (job : NotedJob) (held : Option JobEntry) (due : NoticeDue) → due_of_entry job held ≡ Some due → due_number due ≡ job.number
+pub number_due : (job : NotedJob) (held : Option JobEntry) (due : NoticeDue) → due_of_entry job held ≡ Some due
+    → due_number due ≡ job.number
 number_due job None due same = sym (ap number_or same)
 number_due job (Some (Live live state)) due same = absurd (none_some due same)
 number_due job (Some (Done (Finished ending))) due same = sym (ap number_or same)
 number_due job (Some (Done Interrupted)) due same = sym (ap number_or same)
 number_due job (Some (Done Removed)) due same = sym (ap number_or same)
 
-pub has_sent : (due_notices : List NoticeDue) (number : ℕ) → Has (sent_numbers (notes_of due_notices)) number → (due : NoticeDue) × Has due_notices due × (due_number due ≡ number)
+pub has_sent : (due_notices : List NoticeDue) (number : ℕ) → Has (sent_numbers (notes_of due_notices)) number
+    → (due : NoticeDue) × Has due_notices due × (due_number due ≡ number)
 has_sent [] number has = absurd has
 has_sent (Send job end ∷ later) number (inl same) = (Send job end, inl refl, same)
 has_sent (Send job end ∷ later) number (inr has) = let from = has_sent later number has in (from.0, inr from.1, from.2)
@@ -64,7 +67,8 @@ has_sent (Drop other ∷ later) number has = let from = has_sent later number ha
 abbrev pub AreDuesAscending : List NoticeDue → Type 0
 AreDuesAscending due_notices = AllPairs (λ one other. due_number one < due_number other) due_notices
 
-pub distinct_sent : (due_notices : List NoticeDue) → AreDuesAscending due_notices → are_distinct (sent_numbers (notes_of due_notices)) ≡ true
+pub distinct_sent : (due_notices : List NoticeDue) → AreDuesAscending due_notices
+    → are_distinct (sent_numbers (notes_of due_notices)) ≡ true
 distinct_sent [] rise = refl
 distinct_sent (Send job end ∷ later) rise =
     let apart : list_any (λ other. other == job.number) (sent_numbers (notes_of later)) ≡ false =
@@ -73,16 +77,19 @@ distinct_sent (Send job end ∷ later) rise =
     subst (λ (n : ℕ). job.number < n) from.2
     (pairs_head (λ (one other : NoticeDue). due_number one < due_number other) (Send job end) later rise from.0 from.1)) in
     rw apart (distinct_sent later (pairs_tail (λ (one other : NoticeDue). due_number one < due_number other) (Send job end) later rise))
-distinct_sent (Drop number ∷ later) rise = distinct_sent later (pairs_tail (λ (one other : NoticeDue). due_number one < due_number other) (Drop number) later rise)
+distinct_sent (Drop number ∷ later) rise =
+    distinct_sent later (pairs_tail (λ (one other : NoticeDue). due_number one < due_number other) (Drop number) later rise)
 
 module _ (table : JobTable) where
   abbrev due_in : NotedJob → Option NoticeDue
   due_in job = due_of_entry job (entry_at table job.number)
 
-  rise_more : (job : NotedJob) (later : List NotedJob) → ((other : NotedJob) → Has later other → job.number < other.number) → AreDuesAscending (filter_map due_in later) →
+  rise_more : (job : NotedJob) (later : List NotedJob) → ((other : NotedJob) → Has later other → job.number < other.number)
+      → AreDuesAscending (filter_map due_in later) →
       (due : Option NoticeDue) → due_in job ≡ due → AreDuesAscending (cons_option due (filter_map due_in later))
   rise_more job later less rest None is = rest
-  rise_more job later less rest (Some due) is = pairs_cons (λ (one other : NoticeDue). due_number one < due_number other) due (filter_map due_in later) (λ other has.
+  rise_more job later less rest (Some due) is =
+      pairs_cons (λ (one other : NoticeDue). due_number one < due_number other) due (filter_map due_in later) (λ other has.
       let from = given_has due_in later other has in
       subst (λ (n : ℕ). n < due_number other) (sym (number_due job (entry_at table job.number) due is))
       (subst (λ (n : ℕ). job.number < n) (sym (number_due from.0 (entry_at table from.0.number) other from.2)) (less from.0 from.1))) rest
@@ -101,7 +108,8 @@ pub distinct_first : (xs ys : List ℕ) → are_distinct (xs ++ ys) ≡ true →
 distinct_first [] ys distinct = refl
 distinct_first (x ∷ xs) ys distinct =
     let parts = and_parts (not (list_any (λ other. other == x) (xs ++ ys))) (are_distinct (xs ++ ys)) distinct in
-    let apart : list_any (λ other. other == x) xs ≡ false = any_first (λ other. other == x) xs ys (not-true (list_any (λ other. other == x) (xs ++ ys)) parts.0) in
+    let apart : list_any (λ other. other == x) xs ≡ false =
+    any_first (λ other. other == x) xs ys (not-true (list_any (λ other. other == x) (xs ++ ys)) parts.0) in
     rw apart (distinct_first xs ys parts.1)
 
 pub sent_noting : (new_jobs : List NotedJob) (later : List Note) → sent_numbers (noting_of new_jobs ++ later) ≡ sent_numbers later
@@ -109,7 +117,8 @@ sent_noting [] later = refl
 sent_noting (job ∷ new_jobs) later = sent_noting new_jobs later
 
 -- the numbers of the notices that were sent differ
-pub sent_differ : (table : JobTable) (notes : List Note) (plan : MailPlan) (made next : List Note) → AreDuesOf table notes plan.due_notices.items → IsNotesPrefix (made ++ next) (steps_by plan) →
+pub sent_differ : (table : JobTable) (notes : List Note) (plan : MailPlan) (made next : List Note)
+    → AreDuesOf table notes plan.due_notices.items → IsNotesPrefix (made ++ next) (steps_by plan) →
     are_distinct (sent_numbers made) ≡ true
 sent_differ table notes plan made next are first =
     let all : are_distinct (sent_numbers (steps_by plan)) ≡ true =
@@ -120,7 +129,8 @@ sent_differ table notes plan made next are first =
     distinct_first (sent_numbers made) (sent_numbers (next ++ first.0)) (ap are_distinct (sym parted) ∙ all)
 
 -- the numbers of what was sent
-pub sent_of_hands : (of : Mailing) (notes : List Note) (given : List Handed) → SendsNotices of notes given → sent_numbers notes ≡ map (λ (one : Handed). one.number) given
+pub sent_of_hands : (of : Mailing) (notes : List Note) (given : List Handed) → SendsNotices of notes given
+    → sent_numbers notes ≡ map (λ (one : Handed). one.number) given
 sent_of_hands of [] given none = sym (ap (map (λ (one : Handed). one.number)) none)
 sent_of_hands of (Sent number ∷ later) given hands =
     let one = hands.2 in
@@ -128,9 +138,11 @@ sent_of_hands of (Sent number ∷ later) given hands =
     ∙ ap (λ (l : List ℕ). one.0.number ∷ l) (sent_of_hands of later hands.1 hands.3)
     ∙ sym (ap (map (λ (of_one : Handed). of_one.number)) (hands.4 ∙ ap (λ (l : List Handed). l ++ hands.1) one.2))
 sent_of_hands of (Noted job ∷ later) given hands =
-    sent_of_hands of later hands.1 hands.3 ∙ sym (ap (map (λ (one : Handed). one.number)) (hands.4 ∙ ap (λ (l : List Handed). l ++ hands.1) hands.2))
+    sent_of_hands of later hands.1 hands.3
+    ∙ sym (ap (map (λ (one : Handed). one.number)) (hands.4 ∙ ap (λ (l : List Handed). l ++ hands.1) hands.2))
 sent_of_hands of (Dropped number ∷ later) given hands =
-    sent_of_hands of later hands.1 hands.3 ∙ sym (ap (map (λ (one : Handed). one.number)) (hands.4 ∙ ap (λ (l : List Handed). l ++ hands.1) hands.2))
+    sent_of_hands of later hands.1 hands.3
+    ∙ sym (ap (map (λ (one : Handed). one.number)) (hands.4 ∙ ap (λ (l : List Handed). l ++ hands.1) hands.2))
 
 -- What the notes have fits eight digits.
 
@@ -144,14 +156,16 @@ notes_fit None notes none note has = absurd (subst (λ (l : List Note). Has l no
 notes_fit (Some bytes) notes lines note has = lines_fit bytes notes lines.spelled note has
 
 -- a notice that is sent is that of a job that waited
-pub sent_waits : (table : JobTable) (notes : List Note) (due_notices : List NoticeDue) (are : AreDuesOf table notes due_notices) (number : ℕ) → Has (sent_numbers (notes_of due_notices)) number →
+pub sent_waits : (table : JobTable) (notes : List Note) (due_notices : List NoticeDue) (are : AreDuesOf table notes due_notices)
+    (number : ℕ) → Has (sent_numbers (notes_of due_notices)) number →
     (job : NotedJob) × Has are.jobs job × (job.number ≡ number)
 sent_waits table notes due_notices are number has =
     let from = has_sent due_notices number has in
     let given = given_has (due_in table) are.jobs from.0 (subst (λ (l : List NoticeDue). Has l from.0) are.dues_are from.1) in
     (given.0, given.1, sym (number_due given.0 (entry_at table given.0.number) from.0 given.2) ∙ from.2)
 
-pub sent_fit : (held : Option (List ℕ)) (table : JobTable) (notes : List Note) (plan : MailPlan) (made next : List Note) → GivesNotes held notes → AreDuesOf table notes plan.due_notices.items →
+pub sent_fit : (held : Option (List ℕ)) (table : JobTable) (notes : List Note) (plan : MailPlan) (made next : List Note)
+    → GivesNotes held notes → AreDuesOf table notes plan.due_notices.items →
     IsNotesPrefix (made ++ next) (steps_by plan) → (number : ℕ) → Has (sent_numbers made) number → Fits number
 sent_fit held table notes plan made next gives are first number has =
     let parted : sent_numbers (steps_by plan) ≡ sent_numbers made ++ sent_numbers (next ++ first.0) =
@@ -161,11 +175,13 @@ sent_fit held table notes plan made next gives are first number has =
     (has_left (sent_numbers made) (sent_numbers (next ++ first.0)) number has) in
     let job = sent_waits table notes plan.due_notices.items are number among in
     let noted : IsNote (Noted job.0) =
-    notes_fit held notes gives (Noted job.0) (has_contained notes (Noted job.0) (are.waiting.each job.0 (contained are.jobs job.0 job.1)).noted) in
+    notes_fit held notes gives (Noted job.0)
+    (has_contained notes (Noted job.0) (are.waiting.each job.0 (contained are.jobs job.0 job.1)).noted) in
     subst Fits job.2 noted.0
 
 -- a number that fits and was not sent has another notice
-pub none_sent : (numbers : List ℕ) → ((number : ℕ) → Has numbers number → Fits number) → (number : ℕ) → Fits number → (Contains numbers number → ⊥) → is_notice_of numbers (notice_file number) ≡ false
+pub none_sent : (numbers : List ℕ) → ((number : ℕ) → Has numbers number → Fits number) → (number : ℕ) → Fits number
+    → (Contains numbers number → ⊥) → is_notice_of numbers (notice_file number) ≡ false
 none_sent numbers each number fits apart = by_test (is_notice_of numbers (notice_file number)) refl where
   by_test : (test : Bool) → is_notice_of numbers (notice_file number) ≡ test → is_notice_of numbers (notice_file number) ≡ false
   by_test false is = is

@@ -61,12 +61,14 @@ has_child (first ∷ kids) kid (inl same) = inl (ap (λ (one : Kid). one.child) 
 has_child (first ∷ kids) kid (inr has) = inr (has_child kids kid has)
 has_child [] kid has = absurd has
 
-children_so : (was now : List Child) (kids left added : List Kid) (answers : List (Option Ending)) → AreChildren was kids → now ≡ was ++ map (λ (kid : Kid). kid.child) added →
+children_so : (was now : List Child) (kids left added : List Kid) (answers : List (Option Ending)) → AreChildren was kids
+    → now ≡ was ++ map (λ (kid : Kid). kid.child) added →
     left ≡ kids_after kids answers ++ added → AreChildren now left
 children_so was now kids left added answers are now_is left_is = record {
   each = λ kid has.
       let in_two : Has (kids_after kids answers ++ added) kid = subst (λ (l : List Kid). Has l kid) left_is (has_contained left kid has) in
-      subst (λ (l : List Child). Contains l kid.child) (sym now_is) (contained (was ++ map (λ (one : Kid). one.child) added) kid.child (elim (has_either (kids_after kids answers) added kid in_two) [
+      subst (λ (l : List Child). Contains l kid.child) (sym now_is)
+      (contained (was ++ map (λ (one : Kid). one.child) added) kid.child (elim (has_either (kids_after kids answers) added kid in_two) [
         | inl stays ↦ has_left was (map (λ (one : Kid). one.child) added) kid.child
             (has_contained was kid.child (are.each kid (contained kids kid (kids_among kids answers kid stays))))
         | inr more ↦ has_right was (map (λ (one : Kid). one.child) added) kid.child (has_child added kid more)
@@ -75,7 +77,8 @@ children_so was now kids left added answers are now_is left_is = record {
 
 -- Nothing was planned.
 
-module _ (tells : Bool) (before after : Session) (old new : World) (program : List ℕ) (kids : List Kid) (children : AreChildren before.children kids) (sent : List ℕ) (none : sent ≡ []) where
+module _ (tells : Bool) (before after : Session) (old new : World) (program : List ℕ) (kids : List Kid)
+    (children : AreChildren before.children kids) (sent : List ℕ) (none : sent ≡ []) where
   idle : (of : StoreFault) → IsUnplanned old new of → IsMailIdle sent (stand before old program kids) (stand after new program kids)
   idle of is = record {
     none = record { none = none; kids = refl };
@@ -85,21 +88,25 @@ module _ (tells : Bool) (before after : Session) (old new : World) (program : Li
     asked = is.changes.asked;
   }
 
-  leaves_idle : (of : StoreFault) → IsReadingFault of → IsUnplanned old new of → MailLeaves sent (stand before old program kids) (stand after new program kids) (end_after (Err of))
+  leaves_idle : (of : StoreFault) → IsReadingFault of → IsUnplanned old new of
+      → MailLeaves sent (stand before old program kids) (stand after new program kids) (end_after (Err of))
   leaves_idle fault.FileFault reads is = inl (idle fault.FileFault is)
   leaves_idle fault.Memory reads is = inl (idle fault.Memory is)
   leaves_idle (fault.Damaged damage) reads is = (idle (fault.Damaged damage) is, recoveries_begin_nothing old new is.changes, is.damaged)
   leaves_idle _ reads is = absurd reads
 
-  pub works_idle : (of : StoreFault) (result : Result (Unit {0}) StoreFault) → IsErrAnd result (λ other. other ≡ of) → CallsInside {T = MailPlan} fault.FileFault before after (Err of) → IsReadingFault of →
+  pub works_idle : (of : StoreFault) (result : Result (Unit {0}) StoreFault) → IsErrAnd result (λ other. other ≡ of)
+      → CallsInside {T = MailPlan} fault.FileFault before after (Err of) → IsReadingFault of →
       (tells ≡ true → IsUnplanned old new of) → MailWorks tells (stand before old program kids) (stand after new program kids) sent result
   works_idle of (Ok done) err inside reads is = absurd err
   works_idle of (Err other) err inside reads is =
-      subst (λ (one : StoreFault). MailWorks tells (stand before old program kids) (stand after new program kids) sent (Err one)) (sym err) (record {
+      subst (λ (one : StoreFault). MailWorks tells (stand before old program kids) (stand after new program kids) sent (Err one)) (sym err)
+      (record {
         inside = inside.stays.inside;
         counts = inside.stays.counts;
         kept = ([], inside.stays.children ∙ sym (append-nil before.children));
-        cause = record { later = inside.cause.later; rose = λ bad. inside.cause.rose (ap (λ (one : StoreFault). Err one) (same_fault bad)) };
+        cause =
+            record { later = inside.cause.later; rose = λ bad. inside.cause.rose (ap (λ (one : StoreFault). Err one) (same_fault bad)) };
         faults = reads;
         children = subst (λ (l : List Child). AreChildren l kids) (sym inside.stays.children) children;
         distinct = subst (λ (l : List ℕ). are_distinct l ≡ true) (sym none) refl;
@@ -111,11 +118,13 @@ module _ (tells : Bool) (before after : Session) (old new : World) (program : Li
 
 -- The steps after a recovery.
 
-head_in : (first : List Moment) (here there : Moment) (earlier later : List Moment) → here ∷ earlier ≡ first ++ there ∷ later → Has (first ++ there ∷ []) here
+head_in : (first : List Moment) (here there : Moment) (earlier later : List Moment) → here ∷ earlier ≡ first ++ there ∷ later
+    → Has (first ++ there ∷ []) here
 head_in [] here there earlier later is = inl (let same : here ≡ there = cc in sym same)
 head_in (one ∷ first) here there earlier later is = inl (let same : here ≡ one = cc in sym same)
 
-module _ (tells : Bool) (before between after : Session) (old opened new : World) (program : List ℕ) (plan : MailPlan) (kids left : List Kid) (gone : List ℕ)
+module _ (tells : Bool) (before between after : Session) (old opened new : World) (program : List ℕ) (plan : MailPlan)
+    (kids left : List Kid) (gone : List ℕ)
     (planned : IsPlanned tells old opened kids plan) (inside : CallsInside {T = MailPlan} fault.FileFault before between (Ok plan)) where
   abbrev notes : List Note
   notes = planned.plan_on.notes
@@ -140,7 +149,8 @@ module _ (tells : Bool) (before between after : Session) (old opened new : World
     plan_in = planned.plan_on.plan_in known table recovered.current
 
     pub is_opened : AreNotesOpened notes table old opened
-    is_opened = recoveries_open planned.kept notes old opened changes recovered (holds_notes (finite.get (reading opened) mail_file) notes plan_in.gives)
+    is_opened = recoveries_open planned.kept notes old opened changes recovered
+        (holds_notes (finite.get (reading opened) mail_file) notes plan_in.gives)
 
     pub may_carry_out : MayRunPlan opened kids plan
     may_carry_out = record { start = old; table = table; notes = notes; is_opened = is_opened; stale = plan_in.stale }
@@ -150,7 +160,8 @@ module _ (tells : Bool) (before between after : Session) (old opened new : World
 
     are_due : AreDue mailing plan.due_notices.items
     are_due = dues_are_due mailing notes planned.kept.table recovered.current.without_scripts_is
-        (λ job has. contained (notes ++ steps_by plan) (Noted job) (has_left notes (steps_by plan) (Noted job) (has_contained notes (Noted job) has)))
+        (λ job has.
+        contained (notes ++ steps_by plan) (Noted job) (has_left notes (steps_by plan) (Noted job) (has_contained notes (Noted job) has)))
         plan.due_notices.items planned.plan_on.plan_for.due_notices
 
     steps_are : AreMailSteps (reading opened) table notes (steps_by plan)
@@ -158,8 +169,10 @@ module _ (tells : Bool) (before between after : Session) (old opened new : World
       new_jobs = plan.new_jobs.items;
       due_notices = plan.due_notices.items;
       numbers = planned.plan_on.plan_for.numbers ∙ new_on_the_table planned.kept.table table notes recovered.current.without_scripts_is;
-      each = λ job has. all_each (IsNotedFrom (reading opened) table) plan.new_jobs.items plan_in.noted job (has_contained plan.new_jobs.items job has);
-      due = dues_on_the_table planned.kept.table table notes plan.due_notices.items recovered.current.without_scripts_is planned.plan_on.plan_for.due_notices;
+      each = λ job has.
+          all_each (IsNotedFrom (reading opened) table) plan.new_jobs.items plan_in.noted job (has_contained plan.new_jobs.items job has);
+      due = dues_on_the_table planned.kept.table table notes plan.due_notices.items recovered.current.without_scripts_is
+          planned.plan_on.plan_for.due_notices;
       all = refl;
     }
 
@@ -171,7 +184,8 @@ module _ (tells : Bool) (before between after : Session) (old opened new : World
       at = opened.now;
       since = record {
         more = to.further.more ++ changes.leaves.more;
-        run = to.further.run ∙ ap (λ (l : List Moment). to.further.more ++ l) changes.leaves.run ∙ sym (append_assoc to.further.more changes.leaves.more (moments old));
+        run = to.further.run ∙ ap (λ (l : List Moment). to.further.more ++ l) changes.leaves.run
+            ∙ sym (append_assoc to.further.more changes.leaves.more (moments old));
         is_one = contained ((to.further.more ++ changes.leaves.more) ++ old.now ∷ []) opened.now
             (subst (λ (l : List Moment). Has l opened.now) (sym (append_assoc to.further.more changes.leaves.more (old.now ∷ [])))
             (has_right to.further.more (changes.leaves.more ++ old.now ∷ []) opened.now
@@ -181,7 +195,8 @@ module _ (tells : Bool) (before between after : Session) (old opened new : World
     }
 
     module _ (part : MailPart) (answers : List (Option Ending)) where
-      gave_so : (result : Result (Unit {0}) HostFault) → MakesNotes between after plan kids left [] gone part answers result → (to : CarriesTo mailing notes table kids part (questions kids answers) old opened new result) →
+      gave_so : (result : Result (Unit {0}) HostFault) → MakesNotes between after plan kids left [] gone part answers result
+          → (to : CarriesTo mailing notes table kids part (questions kids answers) old opened new result) →
           SessionHandsOver part.made to.given answers mailing gone at_first at_last
       gave_so result goes to = record {
         handed = to.handed ∙ ap (λ (l : List Handed). l ++ to.given) changes.handed;
@@ -194,12 +209,16 @@ module _ (tells : Bool) (before between after : Session) (old opened new : World
         kids = goes.kids_are;
       }
 
-      notices_so : MakesNotes between after plan kids left [] gone part answers (Ok tt) → ReadsNotices kids (sent_numbers part.made) opened new → AreNoticeFiles kids gone (reading old) (reading new)
+      notices_so : MakesNotes between after plan kids left [] gone part answers (Ok tt)
+          → ReadsNotices kids (sent_numbers part.made) opened new → AreNoticeFiles kids gone (reading old) (reading new)
       notices_so goes reads =
           let fit : (number : ℕ) → Has (sent_numbers part.made) number → Fits number =
-          sent_fit (finite.get (reading opened) mail_file) planned.kept.table notes plan part.made part.next plan_in.gives planned.plan_on.plan_for.due_notices goes.prefix in
-          let apart : (number : ℕ) → Fits number → (Contains gone number → ⊥) → is_notice_of (sent_numbers part.made) (notice_file number) ≡ false =
-          λ number fits none. none_sent (sent_numbers part.made) fit number fits (λ among. none (subst (λ (l : List ℕ). Contains l number) (sym goes.sent_are) among)) in
+          sent_fit (finite.get (reading opened) mail_file) planned.kept.table notes plan part.made part.next plan_in.gives
+          planned.plan_on.plan_for.due_notices goes.prefix in
+          let apart : (number : ℕ) → Fits number → (Contains gone number → ⊥)
+          → is_notice_of (sent_numbers part.made) (notice_file number) ≡ false =
+          λ number fits none. none_sent (sent_numbers part.made) fit number fits
+          (λ among. none (subst (λ (l : List ℕ). Contains l number) (sym goes.sent_are) among)) in
           let before : (number : ℕ) → finite.get (reading opened) (notice_file number) ≡ finite.get (reading old) (notice_file number) =
           λ number. recovered.others (notice_file number) (mail_is_none_of_the_stores (notice_file number) (inr (inr (number, refl)))) in
           record {
@@ -208,7 +227,8 @@ module _ (tells : Bool) (before between after : Session) (old opened new : World
             gone = λ number fits none lacks. reads.gone number fits (apart number fits none) lacks;
           }
 
-      whole_so : MakesNotes between after plan kids left [] gone part answers (Ok tt) → CarriesTo mailing notes table kids part (questions kids answers) old opened new (Ok tt) → IsMailDone gone at_first at_last
+      whole_so : MakesNotes between after plan kids left [] gone part answers (Ok tt)
+          → CarriesTo mailing notes table kids part (questions kids answers) old opened new (Ok tt) → IsMailDone gone at_first at_last
       whole_so goes to = record {
         table = table;
         notes = notes;
@@ -219,14 +239,16 @@ module _ (tells : Bool) (before between after : Session) (old opened new : World
         posted = subst (λ (l : List Note). HasPosted mailing notes l table old new) goes.all.0 to.posted;
         stand = subst (λ (l : List Note). HoldsNotesAlone (notes ++ l) new.now.directory) goes.all.0 to.ready;
         each_asked = goes.all.1;
-        gave = subst (λ (l : List Note). SessionHandsOver l to.given answers mailing gone at_first at_last) goes.all.0 (gave_so (Ok tt) goes to);
+        gave = subst (λ (l : List Note). SessionHandsOver l to.given answers mailing gone at_first at_last) goes.all.0
+            (gave_so (Ok tt) goes to);
         notices = notices_so goes to.reads;
         others = λ name spool mail.
             let alone = to.alone (reading new) (reading_is_image new.now.directory) in
             alone.others name mail ∙ recovered.durable_others alone.from alone.was name spool ∙ recovered.others name spool;
       }
 
-      stopped_so : (of : HostFault) → MakesNotes between after plan kids left [] gone part answers (Err of) → CarriesTo mailing notes table kids part (questions kids answers) old opened new (Err of) → IsMailStopped gone at_first at_last
+      stopped_so : (of : HostFault) → MakesNotes between after plan kids left [] gone part answers (Err of)
+          → CarriesTo mailing notes table kids part (questions kids answers) old opened new (Err of) → IsMailStopped gone at_first at_last
       stopped_so of goes to = record {
         table = table;
         notes = notes;
@@ -242,7 +264,8 @@ module _ (tells : Bool) (before between after : Session) (old opened new : World
         gave = gave_so (Err of) goes to;
       }
 
-  leaves_stopped : (of : HostFault) → IsMailStopped gone at_first at_last → MailLeaves gone at_first at_last (end_after (Err (store_fault_of of)))
+  leaves_stopped : (of : HostFault) → IsMailStopped gone at_first at_last
+      → MailLeaves gone at_first at_last (end_after (Err (store_fault_of of)))
   leaves_stopped host.Failed stopped = inr stopped
   leaves_stopped host.Memory stopped = inr stopped
 
@@ -262,42 +285,22 @@ module _ (tells : Bool) (before between after : Session) (old opened new : World
   same_error one other is = cc
 
   module _ (children : AreChildren before.children kids) where
-    kids_so : (part : MailPart) (answers : List (Option Ending)) (result : Result (Unit {0}) HostFault) → MakesNotes between after plan kids left [] gone part answers result → AreChildren after.children left
+    kids_so : (part : MailPart) (answers : List (Option Ending)) (result : Result (Unit {0}) HostFault)
+        → MakesNotes between after plan kids left [] gone part answers result → AreChildren after.children left
     kids_so part answers result goes =
-        children_so between.children after.children kids left part.added answers (subst (λ (l : List Child). AreChildren l kids) (sym inside.stays.children) children) goes.children goes.kids_are
+        children_so between.children after.children kids left part.added answers
+        (subst (λ (l : List Child). AreChildren l kids) (sym inside.stays.children) children) goes.children goes.kids_are
 
-    distinct_so : (part : MailPart) (answers : List (Option Ending)) (result : Result (Unit {0}) HostFault) → MakesNotes between after plan kids left [] gone part answers result → are_distinct gone ≡ true
+    distinct_so : (part : MailPart) (answers : List (Option Ending)) (result : Result (Unit {0}) HostFault)
+        → MakesNotes between after plan kids left [] gone part answers result → are_distinct gone ≡ true
     distinct_so part answers result goes =
-        ap are_distinct goes.sent_are ∙ sent_differ planned.kept.table notes plan part.made part.next planned.plan_on.plan_for.due_notices goes.prefix
+        ap are_distinct goes.sent_are
+        ∙ sent_differ planned.kept.table notes plan part.made part.next planned.plan_on.plan_for.due_notices goes.prefix
 
     -- all steps were made
-    pub works_whole : RunsPlan program tells between after opened new plan kids left [] gone (Ok tt) → MailWorks tells at_first at_last gone (Ok tt)
+    pub works_whole : RunsPlan program tells between after opened new plan kids left [] gone (Ok tt)
+        → MailWorks tells at_first at_last gone (Ok tt)
     works_whole carries = record {
-      inside = carries.goes.inside;
-      counts = counts_on before between after inside.stays.counts carries.goes.counts;
-      kept = (
-        map (λ (kid : Kid). kid.child) carries.part.added,
-        carries.goes.children ∙ ap (λ (l : List Child). l ++ map (λ (kid : Kid). kid.child) carries.part.added) inside.stays.children,
-      );
-      cause = record { later = omega (arith, inside.stays.counts.file_faults, carries.goes.counts.file_faults); rose = λ bad. absurd (not_fault bad) };
-      faults = tt;
-      children = kids_so carries.part carries.answers (Ok tt) carries.goes;
-      distinct = distinct_so carries.part carries.answers (Ok tt) carries.goes;
-      unread = λ damage bad. absurd (not_damaged damage bad);
-      leaves = λ known. whole_so known carries.part carries.answers carries.goes
-          (carries.files known (mailing known) notes (table known) old refl (is_opened known) planned.plan_on.plan_for.text (are_due known));
-    } where
-      not_fault : ◌≡◌ {A = Result (Unit {0}) StoreFault} (Ok tt) (Err fault.FileFault) → ⊥
-      not_fault bad = cc
-
-      not_damaged : (damage : Damage) → ◌≡◌ {A = Result (Unit {0}) StoreFault} (Ok tt) (Err (fault.Damaged damage)) → ⊥
-      not_damaged damage bad = cc
-
-    -- or they were stopped
-    pub works_stopped : (of : HostFault) (result : Result (Unit {0}) StoreFault) → IsErrAnd result (λ other. other ≡ store_fault_of of) → RunsPlan program tells between after opened new plan kids left [] gone (Err of) →
-        MailWorks tells at_first at_last gone result
-    works_stopped of (Ok done) err carries = absurd err
-    works_stopped of (Err other) err carries = subst (λ (one : StoreFault). MailWorks tells at_first at_last gone (Err one)) (sym err) (record {
       inside = carries.goes.inside;
       counts = counts_on before between after inside.stays.counts carries.goes.counts;
       kept = (
@@ -306,18 +309,56 @@ module _ (tells : Bool) (before between after : Session) (old opened new : World
       );
       cause = record {
         later = omega (arith, inside.stays.counts.file_faults, carries.goes.counts.file_faults);
-        rose = λ bad. omega (arith, inside.stays.counts.file_faults, carries.goes.cause.rose (host_failed of (same_error (store_fault_of of) fault.FileFault bad)));
+        rose = λ bad. absurd (not_fault bad);
       };
-      faults = host_reads of;
-      children = kids_so carries.part carries.answers (Err of) carries.goes;
-      distinct = distinct_so carries.part carries.answers (Err of) carries.goes;
-      unread = λ damage bad. absurd (host_undamaged of damage (same_error (store_fault_of of) (fault.Damaged damage) bad));
-      leaves = λ known. leaves_stopped of (stopped_so known carries.part carries.answers of carries.goes
-          (carries.files known (mailing known) notes (table known) old refl (is_opened known) planned.plan_on.plan_for.text (are_due known)));
-    })
+      faults = tt;
+      children = kids_so carries.part carries.answers (Ok tt) carries.goes;
+      distinct = distinct_so carries.part carries.answers (Ok tt) carries.goes;
+      unread = λ damage bad. absurd (not_damaged damage bad);
+      leaves = λ known. whole_so known carries.part carries.answers carries.goes
+          (carries.files known (mailing known) notes (table known) old refl (is_opened known)
+          planned.plan_on.plan_for.text (are_due known));
+    } where
+      not_fault : ◌≡◌ {A = Result (Unit {0}) StoreFault} (Ok tt) (Err fault.FileFault) → ⊥
+      not_fault bad = cc
+
+      not_damaged : (damage : Damage) → ◌≡◌ {A = Result (Unit {0}) StoreFault} (Ok tt) (Err (fault.Damaged damage)) → ⊥
+      not_damaged damage bad = cc
+
+    -- or they were stopped
+    pub works_stopped : (of : HostFault) (result : Result (Unit {0}) StoreFault) → IsErrAnd result (λ other. other ≡ store_fault_of of)
+        → RunsPlan program tells between after opened new plan kids left [] gone (Err of) →
+        MailWorks tells at_first at_last gone result
+    works_stopped of (Ok done) err carries = absurd err
+    works_stopped of (Err other) err carries =
+        subst (λ (one : StoreFault). MailWorks tells at_first at_last gone (Err one)) (sym err) (record {
+          inside = carries.goes.inside;
+          counts = counts_on before between after inside.stays.counts carries.goes.counts;
+          kept = (
+            map (λ (kid : Kid). kid.child) carries.part.added,
+            carries.goes.children ∙ ap (λ (l : List Child). l ++ map (λ (kid : Kid). kid.child) carries.part.added) inside.stays.children,
+          );
+          cause = record {
+            later = omega (arith, inside.stays.counts.file_faults, carries.goes.counts.file_faults);
+            rose = λ bad. omega (
+              arith,
+              inside.stays.counts.file_faults,
+              carries.goes.cause.rose (host_failed of (same_error (store_fault_of of) fault.FileFault bad)),
+            );
+          };
+          faults = host_reads of;
+          children = kids_so carries.part carries.answers (Err of) carries.goes;
+          distinct = distinct_so carries.part carries.answers (Err of) carries.goes;
+          unread = λ damage bad. absurd (host_undamaged of damage (same_error (store_fault_of of) (fault.Damaged damage) bad));
+          leaves = λ known. leaves_stopped of (stopped_so known carries.part carries.answers of carries.goes
+              (carries.files known (mailing known) notes (table known) old refl (is_opened known)
+              planned.plan_on.plan_for.text (are_due known)));
+        })
 
 -- the same where nothing was sent before
-pub carries_first : (program : List ℕ) (tells : Bool) (before after : Session) (old new : World) (plan : MailPlan) (kids left : List Kid) (sent gone : List ℕ) (result : Result (Unit {0}) HostFault) →
-    sent ≡ [] → RunsPlan program tells before after old new plan kids left sent gone result → RunsPlan program tells before after old new plan kids left [] gone result
+pub carries_first : (program : List ℕ) (tells : Bool) (before after : Session) (old new : World) (plan : MailPlan) (kids left : List Kid)
+    (sent gone : List ℕ) (result : Result (Unit {0}) HostFault) →
+    sent ≡ [] → RunsPlan program tells before after old new plan kids left sent gone result
+    → RunsPlan program tells before after old new plan kids left [] gone result
 carries_first program tells before after old new plan kids left sent gone result none carries =
     subst (λ (l : List ℕ). RunsPlan program tells before after old new plan kids left l gone result) none carries

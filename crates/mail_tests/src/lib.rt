@@ -14,6 +14,8 @@ mod many;
 #[cfg(test)]
 mod notices;
 #[cfg(test)]
+mod noting;
+#[cfg(test)]
 mod placing;
 #[cfg(test)]
 mod program;

@@ -16,16 +16,16 @@ use std::test::Fail;
 const ENDS: &[u8] =
     b"+S00000001a-000000000067748580.\n+E00000001-x000000000000000000.\n+R00000002--000000000000000000.\n+S00000003a-000000000067748580.\n+E00000003-x000000000000000000.\n";
 
-const BEFORE: &[u8] =
+pub(crate) const BEFORE: &[u8] =
     b"N 00000001 a0000000101b968a0 1 ann\nN 00000002 a0000000201b968a0 1 ann\nS 00000001\nN 00000003 a0000000301b968a0 1 ann\nN 00000004 a0000000401b968a0 1 ann\nD 00000002\nN 00000005 a0000000501b968a0 1 ann\nS 00000005\n";
 
 const AFTER: &[u8] =
     b"N 00000003 a0000000301b968a0 1 ann\nN 00000004 a0000000401b968a0 1 ann\nN 00000005 a0000000501b968a0 1 ann\nS 00000005\n";
 
-const LEFT_OVER: &[u8] = b"left over";
+pub(crate) const LEFT_OVER: &[u8] = b"left over";
 
 // The spool of these jobs.
-fn five_jobs(
+pub(crate) fn five_jobs(
     rt: &impl Abort,
     alloc: Global,
     notes: &[u8],

@@ -43,12 +43,17 @@ one_below-more limit more number at_most = by_case (nat_lt number limit) (nat_lt
 -- no more numbers than all are below
 pub below-length : (limit : ℕ) (numbers : List ℕ) → below_in limit numbers ≤ length numbers
 below-length limit [] = omega arith
-below-length limit (number ∷ others) = let rest = below-length limit others in omega (arith, below-cons limit number others, one_below-le limit number)
+below-length limit (number ∷ others) =
+    let rest = below-length limit others in
+    omega (arith, below-cons limit number others, one_below-le limit number)
 
 -- more numbers are below a greater one
 pub below-more : (limit more : ℕ) (numbers : List ℕ) → limit ≤ more → below_in limit numbers ≤ below_in more numbers
 below-more limit more [] at_most = omega arith
-below-more limit more (number ∷ others) at_most = let rest = below-more limit more others at_most in let here = one_below-more limit more number at_most in omega (arith, below-cons limit number others, below-cons more number others)
+below-more limit more (number ∷ others) at_most =
+    let rest = below-more limit more others at_most in
+    let here = one_below-more limit more number at_most in
+    omega (arith, below-cons limit number others, below-cons more number others)
 
 one_below-self : (number : ℕ) → one_below number number ≡ 0
 unfolding one_below
@@ -58,12 +63,15 @@ one_below-self number = by_case (nat_lt number number) refl where
   by_case false less = refl
 
 -- a number that is named counts from the next one on
-pub below-named : (number : ℕ) (numbers : List ℕ) → is_planned number numbers ≡ true → below_in number numbers + 1 ≤ below_in (number + 1) numbers
+pub below-named : (number : ℕ) (numbers : List ℕ) → is_planned number numbers ≡ true
+    → below_in number numbers + 1 ≤ below_in (number + 1) numbers
 below-named number [] named = absurd (false_true named) where
   false_true : false ≡ true → ⊥
   false_true e = cc
 below-named number (first ∷ others) named = by_case (first == number) refl named (below-named number others) where
-  by_case : (b : Bool) → (first == number) ≡ b → (b || is_planned number others) ≡ true → (is_planned number others ≡ true → below_in number others + 1 ≤ below_in (number + 1) others) → below_in number (first ∷ others) + 1 ≤ below_in (number + 1) (first ∷ others)
+  by_case : (b : Bool) → (first == number) ≡ b → (b || is_planned number others) ≡ true
+      → (is_planned number others ≡ true → below_in number others + 1 ≤ below_in (number + 1) others)
+      → below_in number (first ∷ others) + 1 ≤ below_in (number + 1) (first ∷ others)
   by_case true same is rest =
       let equal = eqb-true first number same in
       let none : one_below number first ≡ 0 = ap (one_below number) equal ∙ one_below-self number in
@@ -79,7 +87,8 @@ below-named number (first ∷ others) named = by_case (first == number) refl nam
 part_named : (failing : List Failing) (call : ℕ) → is_some (part_of failing call) ≡ true → is_planned call (failing_calls failing) ≡ true
 part_named [] call found = found
 part_named (first ∷ others) call found = by_case (first.call == call) found (part_named others call) where
-  by_case : (b : Bool) → is_some (cond b (Some first.part) (part_of others call)) ≡ true → (is_some (part_of others call) ≡ true → is_planned call (failing_calls others) ≡ true) → (b || is_planned call (failing_calls others)) ≡ true
+  by_case : (b : Bool) → is_some (cond b (Some first.part) (part_of others call)) ≡ true → (is_some (part_of others call) ≡ true
+      → is_planned call (failing_calls others) ≡ true) → (b || is_planned call (failing_calls others)) ≡ true
   by_case true is rest = refl
   by_case false is rest = rest is
 
@@ -108,17 +117,22 @@ second_holds false b holds = cc
 
 -- How far the host has come after a call, by the numbers that are kept.
 
-pub next_progress : (at : Progress) (calls since : ℕ) → calls ≡ min (at.calls + 1) last_count → since ≡ min (at.since_reboot + 1) last_count → record at { calls = calls; since_reboot = since } ≡ progress_after_call at
+pub next_progress : (at : Progress) (calls since : ℕ) → calls ≡ min (at.calls + 1) last_count → since ≡ min (at.since_reboot + 1) last_count
+    → record at { calls = calls; since_reboot = since } ≡ progress_after_call at
 next_progress at calls since counted counted_since =
-    ap (λ n. record at { calls = n; since_reboot = since }) counted ∙ ap (λ n. record (progress_after_call at) { since_reboot = n }) counted_since
+    ap (λ n. record at { calls = n; since_reboot = since }) counted
+    ∙ ap (λ n. record (progress_after_call at) { since_reboot = n }) counted_since
 
-pub asked_progress : (at : Progress) (calls since starts : ℕ) → calls ≡ min (at.calls + 1) last_count → since ≡ min (at.since_reboot + 1) last_count → starts ≡ at.starts → record at { calls = calls; since_reboot = since; starts = starts } ≡ progress_after_call at
+pub asked_progress : (at : Progress) (calls since starts : ℕ) → calls ≡ min (at.calls + 1) last_count → since ≡ min (at.since_reboot + 1)
+    last_count → starts ≡ at.starts → record at { calls = calls; since_reboot = since; starts = starts } ≡ progress_after_call at
 asked_progress at calls since starts counted counted_since same =
     ap (λ n. record at { calls = calls; since_reboot = since; starts = n }) same ∙ next_progress at calls since counted counted_since
 
-pub start_progress : (at : Progress) (calls since starts : ℕ) → calls ≡ min (at.calls + 1) last_count → since ≡ min (at.since_reboot + 1) last_count → starts ≡ at.starts + 1 → record at { calls = calls; since_reboot = since; starts = starts } ≡ progress_after_start at
+pub start_progress : (at : Progress) (calls since starts : ℕ) → calls ≡ min (at.calls + 1) last_count → since ≡ min (at.since_reboot + 1)
+    last_count → starts ≡ at.starts + 1 → record at { calls = calls; since_reboot = since; starts = starts } ≡ progress_after_start at
 start_progress at calls since starts counted counted_since begun =
-    ap (λ (one : Progress). record one { starts = starts }) (next_progress at calls since counted counted_since) ∙ ap (λ n. record (progress_after_call at) { starts = n }) begun
+    ap (λ (one : Progress). record one { starts = starts }) (next_progress at calls since counted counted_since)
+    ∙ ap (λ n. record (progress_after_call at) { starts = n }) begun
 
 -- What a start answers.
 
@@ -135,7 +149,8 @@ start_fails at fails = ap (start_by at.starts) (sym fails)
 
 -- The counts after each kind of call.
 
-module _ (at : Progress) (fuses : List ℕ) (file_faults start_faults taken : ℕ) (is : AreFaultsPlanned at fuses file_faults start_faults taken) where
+module _ (at : Progress) (fuses : List ℕ) (file_faults start_faults taken : ℕ)
+    (is : AreFaultsPlanned at fuses file_faults start_faults taken) where
   -- without a fuse a planned fault is one of a named call
   part_planned : is_some (next_part at) ≡ true → HasNoFuse at.plan fuses → is_some (part_of at.plan.failing at.calls) ≡ true
   part_planned named none = sym (ap (λ first. is_some (next_part (record at { fuse = first }))) (is.no_fuse none)) ∙ named
@@ -149,15 +164,23 @@ module _ (at : Progress) (fuses : List ℕ) (file_faults start_faults taken : �
       differs (part_planned named (record { first = quiet.fuse; later = later })) no_part
 
   -- a call without a fault, and so many starts by then
-  passed : (starts : ℕ) → at.starts ≤ starts → AreFaultsPlanned (record (progress_after_call at) { starts = starts }) fuses file_faults start_faults taken
+  passed : (starts : ℕ) → at.starts ≤ starts
+      → AreFaultsPlanned (record (progress_after_call at) { starts = starts }) fuses file_faults start_faults taken
   passed starts later = record {
     no_fuse = is.no_fuse;
     no_file_fault = is.no_file_fault;
     no_start_fault = is.no_start_fault;
     not_taken = is.not_taken;
-    files_planned = λ none small. let before = is.files_planned none (omega arith) in let more = below-more at.calls (min (at.calls + 1) last_count) (failing_calls at.plan.failing) (omega arith) in omega arith;
-    starts_planned = λ none small. let before = is.starts_planned none (omega arith) in let more = below-more at.calls (min (at.calls + 1) last_count) (failing_calls at.plan.failing) (omega arith) in let more_starts = below-more at.starts starts at.plan.failing_starts later in omega arith;
-    lock_planned = λ none small. let before = is.lock_planned none (omega arith) in let more = below-more at.calls (min (at.calls + 1) last_count) at.plan.taken (omega arith) in omega arith;
+    files_planned = λ none small. let before = is.files_planned none (omega arith) in
+        let more = below-more at.calls (min (at.calls + 1) last_count) (failing_calls at.plan.failing) (omega arith) in
+        omega arith;
+    starts_planned = λ none small. let before = is.starts_planned none (omega arith) in
+        let more = below-more at.calls (min (at.calls + 1) last_count) (failing_calls at.plan.failing) (omega arith) in
+        let more_starts = below-more at.starts starts at.plan.failing_starts later in
+        omega arith;
+    lock_planned = λ none small. let before = is.lock_planned none (omega arith) in
+        let more = below-more at.calls (min (at.calls + 1) last_count) at.plan.taken (omega arith) in
+        omega arith;
   }
 
   pub faults_passed : AreFaultsPlanned (progress_after_call at) fuses file_faults start_faults taken
@@ -167,7 +190,8 @@ module _ (at : Progress) (fuses : List ℕ) (file_faults start_faults taken : �
   faults_started = passed (at.starts + 1) (omega arith)
 
   -- a call on the files that failed
-  pub faults_failed : (faults : ℕ) → faults ≡ min (file_faults + 1) last_count → is_some (next_part at) ≡ true → AreFaultsPlanned (progress_after_call at) fuses faults start_faults taken
+  pub faults_failed : (faults : ℕ) → faults ≡ min (file_faults + 1) last_count → is_some (next_part at) ≡ true
+      → AreFaultsPlanned (progress_after_call at) fuses faults start_faults taken
   faults_failed faults more_faults named = record {
     no_fuse = is.no_fuse;
     no_file_fault = λ quiet later. absurd (not_quiet named quiet later);
@@ -183,12 +207,14 @@ module _ (at : Progress) (fuses : List ℕ) (file_faults start_faults taken : �
   }
 
   -- a call that found the lock taken
-  pub faults_taken : (times : ℕ) → times ≡ min (taken + 1) last_count → finds_taken at ≡ true → AreFaultsPlanned (progress_after_call at) fuses file_faults start_faults times
+  pub faults_taken : (times : ℕ) → times ≡ min (taken + 1) last_count → finds_taken at ≡ true
+      → AreFaultsPlanned (progress_after_call at) fuses file_faults start_faults times
   faults_taken times more_times finds = record {
     no_fuse = is.no_fuse;
     no_file_fault = is.no_file_fault;
     no_start_fault = is.no_start_fault;
-    not_taken = λ quiet later. let none : is_planned at.calls at.plan.taken ≡ false = ap (is_planned at.calls) quiet.taken in absurd (differs named none);
+    not_taken = λ quiet later. let none : is_planned at.calls at.plan.taken ≡ false = ap (is_planned at.calls) quiet.taken in
+        absurd (differs named none);
     files_planned = faults_passed.files_planned;
     starts_planned = faults_passed.starts_planned;
     lock_planned = λ none small.
@@ -201,7 +227,8 @@ module _ (at : Progress) (fuses : List ℕ) (file_faults start_faults taken : �
     named = second_holds (not (is_blown at)) (is_planned at.calls at.plan.taken) finds
 
   -- a start that failed
-  pub faults_start_failed : (faults : ℕ) → faults ≡ min (start_faults + 1) last_count → next_start_fails at ≡ true → AreFaultsPlanned (progress_after_start at) fuses file_faults faults taken
+  pub faults_start_failed : (faults : ℕ) → faults ≡ min (start_faults + 1) last_count → next_start_fails at ≡ true
+      → AreFaultsPlanned (progress_after_start at) fuses file_faults faults taken
   faults_start_failed faults more_faults fails = record {
     no_fuse = is.no_fuse;
     no_file_fault = is.no_file_fault;
@@ -213,7 +240,8 @@ module _ (at : Progress) (fuses : List ℕ) (file_faults start_faults taken : �
         let same : min (at.calls + 1) last_count ≡ at.calls + 1 = omega arith in
         let calls = below-more at.calls (at.calls + 1) (failing_calls at.plan.failing) (omega arith) in
         let begins = below-more at.starts (at.starts + 1) at.plan.failing_starts (omega arith) in
-        subst (λ n. faults ≤ below_in n (failing_calls at.plan.failing) + below_in (at.starts + 1) at.plan.failing_starts) (sym same) (elim cause [
+        subst (λ n. faults ≤ below_in n (failing_calls at.plan.failing) + below_in (at.starts + 1) at.plan.failing_starts)
+        (sym same) (elim cause [
           | inl named ↦ let one_more = below-named at.calls (failing_calls at.plan.failing) (fault_named named none) in omega arith
           | inr named ↦ let one_more = below-named at.starts at.plan.failing_starts named in omega arith
         ]);
@@ -225,11 +253,13 @@ module _ (at : Progress) (fuses : List ℕ) (file_faults start_faults taken : �
     unplanned : IsFaultless at.plan → fuses ≡ [] → ⊥
     unplanned quiet later = elim cause [
       | inl named ↦ not_quiet named quiet later
-      | inr named ↦ let none : is_planned at.starts at.plan.failing_starts ≡ false = ap (is_planned at.starts) quiet.failing_starts in differs named none
+      | inr named ↦ let none : is_planned at.starts at.plan.failing_starts ≡ false = ap (is_planned at.starts) quiet.failing_starts in
+          differs named none
     ]
 
   -- a reboot
-  pub faults_rebooted : (fuse : Option ℕ) (more : List ℕ) → more ≡ fuses ++ option_to_list fuse → AreFaultsPlanned (progress_after_reboot fuse at) more file_faults start_faults taken
+  pub faults_rebooted : (fuse : Option ℕ) (more : List ℕ) → more ≡ fuses ++ option_to_list fuse
+      → AreFaultsPlanned (progress_after_reboot fuse at) more file_faults start_faults taken
   faults_rebooted fuse more is_more = record {
     no_fuse = λ none. (none_added fuses fuse (sym is_more ∙ none.later)).1;
     no_file_fault = λ quiet later. is.no_file_fault quiet (none_added fuses fuse (sym is_more ∙ later)).0;
@@ -243,10 +273,12 @@ module _ (at : Progress) (fuses : List ℕ) (file_faults start_faults taken : �
     before none = record { first = none.first; later = (none_added fuses fuse (sym is_more ∙ none.later)).0 }
 
   -- without a fuse there are no more faults than entries of the plan
-  pub few_faults : HasNoFuse at.plan fuses → at.calls < last_count → (file_faults ≤ length at.plan.failing) × (start_faults ≤ length at.plan.failing + length at.plan.failing_starts) × (taken ≤ length at.plan.taken)
+  pub few_faults : HasNoFuse at.plan fuses → at.calls < last_count → (file_faults ≤ length at.plan.failing)
+      × (start_faults ≤ length at.plan.failing + length at.plan.failing_starts) × (taken ≤ length at.plan.taken)
   few_faults none small =
       let calls = below-length at.calls (failing_calls at.plan.failing) in
-      let as_many : length (failing_calls at.plan.failing) ≡ length at.plan.failing = length-map at.plan.failing (λ (one : Failing). one.call) in
+      let as_many : length (failing_calls at.plan.failing) ≡ length at.plan.failing =
+      length-map at.plan.failing (λ (one : Failing). one.call) in
       let files = is.files_planned none small in
       let starts = is.starts_planned none small in
       let locks = is.lock_planned none small in

@@ -15,12 +15,16 @@ use Rattle.memory_host.proofs.NamedLemmas.{same_either}
 use Rattle.memory_host.proofs.NamesLemmas.{find-lookup}
 
 -- what a map of files answers
-get-files : (files : BTreeMap (List ℕ) (List ℕ)) (name : List ℕ) → finite.get (from_entries {R = name_cmp} files.entries) name ≡ get name_cmp files name
+get-files : (files : BTreeMap (List ℕ) (List ℕ)) (name : List ℕ)
+    → finite.get (from_entries {R = name_cmp} files.entries) name ≡ get name_cmp files name
 get-files files name = get-from_entries nat_list_cmp_total files.entries name ∙ find-lookup name files.entries
 
 -- one file was set
-pub files_put : (old new : BTreeMap (List ℕ) (List ℕ)) (name bytes : List ℕ) → ((other : List ℕ) → get name_cmp new other ≡ cond (eq_by_cmp name_cmp name other) (Some bytes) (get name_cmp old other)) → from_entries {R = name_cmp} new.entries ≡ finite.insert (from_entries old.entries) name bytes
-files_put old new name bytes is = same_map nat_list_cmp_total (slice_cmp-IsAntisymmetric nat_cmp-IsAntisymmetric) (from_entries new.entries) (finite.insert (from_entries old.entries) name bytes) (λ other.
+pub files_put : (old new : BTreeMap (List ℕ) (List ℕ)) (name bytes : List ℕ)
+    → ((other : List ℕ) → get name_cmp new other ≡ cond (eq_by_cmp name_cmp name other) (Some bytes) (get name_cmp old other))
+    → from_entries {R = name_cmp} new.entries ≡ finite.insert (from_entries old.entries) name bytes
+files_put old new name bytes is = same_map nat_list_cmp_total (slice_cmp-IsAntisymmetric nat_cmp-IsAntisymmetric) (from_entries new.entries)
+    (finite.insert (from_entries old.entries) name bytes) (λ other.
     get-files new other
     ∙ is other
     ∙ ap (λ b. cond b (Some bytes) (get name_cmp old other)) (sym (same_either name other))
@@ -33,7 +37,8 @@ module _ (list : List Failing) (call index : ℕ) (none : Failing) (inside : ind
 
   -- the entry names the call
   pub part_found : (get_or list index none).call ≡ call → part_of (drop index list) call ≡ Some (get_or list index none).part
-  part_found same = ap (λ l. part_of l call) here ∙ ap (λ b. cond b (Some (get_or list index none).part) (part_of (drop (index + 1) list) call)) (eq-eqb (get_or list index none).call call same)
+  part_found same = ap (λ l. part_of l call) here ∙ ap (λ b.
+      cond b (Some (get_or list index none).part) (part_of (drop (index + 1) list) call)) (eq-eqb (get_or list index none).call call same)
 
   -- the entry names another
   pub part_passed : (get_or list index none).call ≢ call → part_of (drop index list) call ≡ part_of (drop (index + 1) list) call

@@ -21,7 +21,8 @@ spelled_file-one (Some first) None same = cc
 spelled_file-one (Some first) (Some second) same = cc
 
 -- No two contents, and choices to fail, are spelled alike.
-pub inputs_spelling-one : (standard other : List ℕ) (file other_file : Option (List ℕ)) (fails other_fails : Bool) → inputs_spelling standard file fails ≡ inputs_spelling other other_file other_fails → (standard ≡ other) × (file ≡ other_file) × (fails ≡ other_fails)
+pub inputs_spelling-one : (standard other : List ℕ) (file other_file : Option (List ℕ)) (fails other_fails : Bool) → inputs_spelling
+    standard file fails ≡ inputs_spelling other other_file other_fails → (standard ≡ other) × (file ≡ other_file) × (fails ≡ other_fails)
 inputs_spelling-one standard other file other_file fails other_fails same =
     let choices : spelled_choice fails ≡ spelled_choice other_fails = cc in
     let counted : length standard ≡ length other = cc in
@@ -30,7 +31,8 @@ inputs_spelling-one standard other file other_file fails other_fails same =
     (both.0, spelled_file-one file other_file both.1, spelled_choice-one fails other_fails choices)
 
 -- inputs in memory have the content that they were made with
-pub inputs_have : (inputs : MemoryInputs) (standard : List ℕ) (file : Option (List ℕ)) (fails : Bool) → (sources_so_far inputs).made_as ≡ inputs_spelling standard file fails → contents_given inputs ≡ given_contents standard file
+pub inputs_have : (inputs : MemoryInputs) (standard : List ℕ) (file : Option (List ℕ)) (fails : Bool)
+    → (sources_so_far inputs).made_as ≡ inputs_spelling standard file fails → contents_given inputs ≡ given_contents standard file
 inputs_have inputs standard file fails same =
     let one = inputs_spelling-one inputs.standard standard inputs.file file inputs.fails fails same in
     ap (λ bytes. given_contents bytes inputs.file) one.0 ∙ ap (given_contents standard) one.1

@@ -23,9 +23,11 @@ pub faults_are_planned : FaultsArePlanned
 faults_are_planned host plan same no_fuse small =
     let one = spelled-one host.plan plan host.fuses.items [] same in
     let own : host.plan.fuse ≡ None = ap (λ (other : Plan). other.fuse) one.0 ∙ no_fuse in
-    let few = few_faults (progress_of host) host.fuses.items host.file_faults host.start_faults host.taken host.faults (record { first = own; later = one.1 }) small in
+    let few = few_faults (progress_of host) host.fuses.items host.file_faults host.start_faults host.taken host.faults
+    (record { first = own; later = one.1 }) small in
     subst (λ other. HasFewFaults other (memory_session host)) one.0 (record { file_faults = few.0; start_faults = few.1; taken = few.2 })
 
 pub children_answer_as_planned : ChildrenAnswerAsPlanned
 children_answer_as_planned host plan fuses same =
-    subst (λ one. AreAnswers one.children (memory_world host).asked) (spelled-one host.plan plan host.fuses.items fuses same).0 host.kin.answered
+    subst (λ one. AreAnswers one.children (memory_world host).asked)
+    (spelled-one host.plan plan host.fuses.items fuses same).0 host.kin.answered

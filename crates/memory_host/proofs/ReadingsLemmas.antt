@@ -35,7 +35,8 @@ module _ {X : Type 0} (spelled : X → ℕ) (one : (first second : X) → spelle
       cc
 
   -- nor two of one length with what follows each
-  spelled_list-one : (first second : List X) (rest other : List ℕ) → length first ≡ length second → map spelled first ++ rest ≡ map spelled second ++ other → (first ≡ second) × (rest ≡ other)
+  spelled_list-one : (first second : List X) (rest other : List ℕ) → length first ≡ length second
+      → map spelled first ++ rest ≡ map spelled second ++ other → (first ≡ second) × (rest ≡ other)
   spelled_list-one [] [] rest other counted same = (refl, same)
   spelled_list-one [] (y ∷ ys) rest other counted same = absurd (omega arith)
   spelled_list-one (x ∷ xs) [] rest other counted same = absurd (omega arith)
@@ -48,11 +49,13 @@ module _ {X : Type 0} (spelled : X → ℕ) (one : (first second : X) → spelle
       (cc, others.1)
 
 -- No two pairs of lists are spelled alike.
-pub readings_spelling-one : (nows other_nows : List ℤ) (loads other_loads : List (Option ℕ)) → readings_spelling nows loads ≡ readings_spelling other_nows other_loads → (nows ≡ other_nows) × (loads ≡ other_loads)
+pub readings_spelling-one : (nows other_nows : List ℤ) (loads other_loads : List (Option ℕ))
+    → readings_spelling nows loads ≡ readings_spelling other_nows other_loads → (nows ≡ other_nows) × (loads ≡ other_loads)
 readings_spelling-one nows other_nows loads other_loads same =
     let counted : length nows ≡ length other_nows = cc in
     let rest : map spelled_second nows ++ map spelled_load loads ≡ map spelled_second other_nows ++ map spelled_load other_loads = cc in
-    let firsts = spelled_list-one spelled_second spelled_second-one nows other_nows (map spelled_load loads) (map spelled_load other_loads) counted rest in
+    let firsts = spelled_list-one spelled_second spelled_second-one nows other_nows (map spelled_load loads)
+    (map spelled_load other_loads) counted rest in
     (firsts.0, spelled_map-one spelled_load spelled_load-one loads other_loads firsts.1)
 
 -- Each value of list readings keeps to its lists.
@@ -61,6 +64,8 @@ readings_keep readings nows loads same =
     let one = readings_spelling-one readings.nows.items nows readings.loads.items loads same in
     let some_now : 0 < length readings.nows.items = search rules in
     let some_load : 0 < length readings.loads.items = search rules in (
-      subst (λ given. AreAnswersOf given (answers_so_far readings).nows) one.0 (answers_to-AreAnswersOf readings.nows.items some_now readings.now_count),
-      subst (λ given. AreAnswersOf given (answers_so_far readings).loads) one.1 (answers_to-AreAnswersOf readings.loads.items some_load readings.load_count),
+      subst (λ given. AreAnswersOf given (answers_so_far readings).nows) one.0
+          (answers_to-AreAnswersOf readings.nows.items some_now readings.now_count),
+      subst (λ given. AreAnswersOf given (answers_so_far readings).loads) one.1
+          (answers_to-AreAnswersOf readings.loads.items some_load readings.load_count),
     )

@@ -11,7 +11,8 @@ use Rattle.memory_host.specs.declared.failing_list.Part.TheVariants.{Nothing, Al
 use Rattle.memory_host.specs.declared.plan.Plan.{Plan}
 
 -- two lists of one length with what follows each
-pub prefix_one : (first second rest other : List ℕ) → length first ≡ length second → first ++ rest ≡ second ++ other → (first ≡ second) × (rest ≡ other)
+pub prefix_one : (first second rest other : List ℕ) → length first ≡ length second → first ++ rest ≡ second ++ other
+    → (first ≡ second) × (rest ≡ other)
 prefix_one [] [] rest other as_long same = (refl, same)
 prefix_one [] (y ∷ ys) rest other as_long same = absurd (omega arith)
 prefix_one (x ∷ xs) [] rest other as_long same = absurd (omega arith)
@@ -49,7 +50,8 @@ spelled_failing-one (x ∷ xs) (y ∷ ys) same =
     cc
 
 -- two endings with what follows each
-spelled_ending-one : (first second : Ending) (rest other : List ℕ) → spelled_ending first ++ rest ≡ spelled_ending second ++ other → (first ≡ second) × (rest ≡ other)
+spelled_ending-one : (first second : Ending) (rest other : List ℕ) → spelled_ending first ++ rest ≡ spelled_ending second ++ other
+    → (first ≡ second) × (rest ≡ other)
 spelled_ending-one (Exit x) (Exit y) rest other same = (cc, cc)
 spelled_ending-one (Exit x) (Signal y) rest other same = let kinds : ◌≡◌ {A = ℕ} 0 1 = cc in absurd (omega arith)
 spelled_ending-one (Exit x) NotStarted rest other same = let kinds : ◌≡◌ {A = ℕ} 0 2 = cc in absurd (omega arith)
@@ -83,7 +85,8 @@ in_a_row : (a b c d e f : List ℕ) → ((((a ++ b) ++ c) ++ d) ++ e) ++ f ≡ a
 in_a_row a b c d e f = simp append_assoc
 
 -- plans that have the same in each field
-same_plan : (plan other : Plan) → plan.failing ≡ other.failing → plan.taken ≡ other.taken → plan.failing_starts ≡ other.failing_starts → plan.fuse ≡ other.fuse → plan.children ≡ other.children → plan ≡ other
+same_plan : (plan other : Plan) → plan.failing ≡ other.failing → plan.taken ≡ other.taken → plan.failing_starts ≡ other.failing_starts
+    → plan.fuse ≡ other.fuse → plan.children ≡ other.children → plan ≡ other
 same_plan plan other failing taken starts fuse children =
     ap (λ (l : List Failing). record plan { failing = l }) failing
     ∙ ap (λ (l : List ℕ). record plan { failing = other.failing; taken = l }) taken
@@ -92,15 +95,20 @@ same_plan plan other failing taken starts fuse children =
     ∙ ap (λ (l : List ChildPlan). record other { children = l }) children
 
 -- No two plans with their fuses are spelled alike.
-pub spelled-one : (plan other : Plan) (fuses others : List ℕ) → spelled plan fuses ≡ spelled other others → (plan ≡ other) × (fuses ≡ others)
+pub spelled-one : (plan other : Plan) (fuses others : List ℕ) → spelled plan fuses ≡ spelled other others
+    → (plan ≡ other) × (fuses ≡ others)
 unfolding spelled
 spelled-one plan other fuses others same =
-    let row = sym (in_a_row (counted (spelled_failing plan.failing)) (counted plan.taken) (counted plan.failing_starts) (counted (spelled_children plan.children)) (counted (spelled_fuse plan.fuse)) fuses) ∙ same ∙ in_a_row (counted (spelled_failing other.failing)) (counted other.taken) (counted other.failing_starts) (counted (spelled_children other.children)) (counted (spelled_fuse other.fuse)) others in
+    let row = sym (in_a_row (counted (spelled_failing plan.failing)) (counted plan.taken) (counted plan.failing_starts)
+    (counted (spelled_children plan.children)) (counted (spelled_fuse plan.fuse)) fuses) ∙ same
+    ∙ in_a_row (counted (spelled_failing other.failing)) (counted other.taken) (counted other.failing_starts)
+    (counted (spelled_children other.children)) (counted (spelled_fuse other.fuse)) others in
     let failing = counted_one (spelled_failing plan.failing) (spelled_failing other.failing) _ _ row in
     let taken = counted_one plan.taken other.taken _ _ failing.1 in
     let starts = counted_one plan.failing_starts other.failing_starts _ _ taken.1 in
     let children = counted_one (spelled_children plan.children) (spelled_children other.children) _ _ starts.1 in
     let fuse = counted_one (spelled_fuse plan.fuse) (spelled_fuse other.fuse) _ _ children.1 in (
-      same_plan plan other (spelled_failing-one plan.failing other.failing failing.0) taken.0 starts.0 (spelled_fuse-one plan.fuse other.fuse fuse.0) (spelled_children-one plan.children other.children children.0),
+      same_plan plan other (spelled_failing-one plan.failing other.failing failing.0) taken.0 starts.0
+          (spelled_fuse-one plan.fuse other.fuse fuse.0) (spelled_children-one plan.children other.children children.0),
       fuse.1,
     )

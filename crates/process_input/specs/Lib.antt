@@ -1,3 +1,4 @@
 pub mod Directories
 pub mod StartupError
 pub mod Umask
+pub mod Zones

@@ -1,5 +1,5 @@
 -- The umask in the status of a process: the line `Umask:`, a tab and octal digits (proc_pid_status(5) of Linux).
-use Rattle.std.specs.Prelude.{◌≡◌, ◌<◌, ◌⊎◌, ℕ, List, Option, Some, None, codes, drop, take}
+use Rattle.std.specs.Prelude.{◌≡◌, ◌<◌, ◌⊎◌, ℕ, List, Some, None, codes, drop, take}
 use Rattle.std.specs.Str.Parse.{IsNumeral, digits_value, without_leading_plus}
 use Rattle.std.specs.Str.Pattern.{FindsChar, FindsText}
 

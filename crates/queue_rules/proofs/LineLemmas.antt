@@ -15,7 +15,8 @@ use Rattle.queue_rules.proofs.DueOrderLemmas.{in_line-refl}
 use Rattle.queue_rules.proofs.RowLemmas.{none_batch, none_job, not_batch, not_job, row_in_line, row_less, row_more, row_pushed, row_put, row_unlisted}
 
 -- a row that does not wait changes neither line
-pub lines_put : (prefix suffix : List Row) (row : Row) (lines : Lines) → is_pending row.state ≡ false → AreLinesOf (prefix ++ suffix) lines → AreLinesOf (prefix ++ row ∷ suffix) lines
+pub lines_put : (prefix suffix : List Row) (row : Row) (lines : Lines) → is_pending row.state ≡ false → AreLinesOf (prefix ++ suffix) lines
+    → AreLinesOf (prefix ++ row ∷ suffix) lines
 lines_put prefix suffix row lines waits are = record {
   jobs = row_put is_waiting_job prefix suffix row lines.jobs (none_job row waits) are.jobs;
   batch = row_put is_waiting_batch prefix suffix row lines.batch (none_batch row waits) are.batch;
@@ -26,21 +27,27 @@ pub on_ok : {X E P Q : Type 0} → (result : Result X E) → OnOk result P → (
 on_ok (Ok done) is then = then is
 on_ok (Err fault) is then = is
 
-pub batch_more : (rows : List Row) (row : Row) (lines : Lines) (due : Due) (new : List Due) → is_waiting_batch row ≡ true → due ≡ due_of_row row
-    → IsPermutation (due ∷ lines.batch) new → AreInLine new → AreLinesOf rows lines → AreLinesOf (rows ++ row ∷ []) (record { jobs = lines.jobs; batch = new })
+pub batch_more : (rows : List Row) (row : Row) (lines : Lines) (due : Due) (new : List Due)
+    → is_waiting_batch row ≡ true → due ≡ due_of_row row
+    → IsPermutation (due ∷ lines.batch) new → AreInLine new → AreLinesOf rows lines
+    → AreLinesOf (rows ++ row ∷ []) (record { jobs = lines.jobs; batch = new })
 batch_more rows row lines due new waits of added line are = record {
   jobs = row_pushed is_waiting_job rows row lines.jobs (not_job row waits) are.jobs;
-  batch = row_more is_waiting_batch rows row lines.batch new waits (subst (λ (one : Due). IsPermutation (one ∷ lines.batch) new) of added) line are.batch;
+  batch = row_more is_waiting_batch rows row lines.batch new waits
+      (subst (λ (one : Due). IsPermutation (one ∷ lines.batch) new) of added) line are.batch;
 }
 
 pub job_more : (rows : List Row) (row : Row) (lines : Lines) (due : Due) (new : List Due) → is_waiting_job row ≡ true → due ≡ due_of_row row
-    → IsPermutation (due ∷ lines.jobs) new → AreInLine new → AreLinesOf rows lines → AreLinesOf (rows ++ row ∷ []) (record { jobs = new; batch = lines.batch })
+    → IsPermutation (due ∷ lines.jobs) new → AreInLine new → AreLinesOf rows lines
+    → AreLinesOf (rows ++ row ∷ []) (record { jobs = new; batch = lines.batch })
 job_more rows row lines due new waits of added line are = record {
-  jobs = row_more is_waiting_job rows row lines.jobs new waits (subst (λ (one : Due). IsPermutation (one ∷ lines.jobs) new) of added) line are.jobs;
+  jobs = row_more is_waiting_job rows row lines.jobs new waits
+      (subst (λ (one : Due). IsPermutation (one ∷ lines.jobs) new) of added) line are.jobs;
   batch = row_pushed is_waiting_batch rows row lines.batch (not_batch row waits) are.batch;
 }
 
-pub none_more : (rows : List Row) (row : Row) (lines : Lines) → is_waiting_job row ≡ false → is_waiting_batch row ≡ false → AreLinesOf rows lines → AreLinesOf (rows ++ row ∷ []) lines
+pub none_more : (rows : List Row) (row : Row) (lines : Lines) → is_waiting_job row ≡ false → is_waiting_batch row ≡ false
+    → AreLinesOf rows lines → AreLinesOf (rows ++ row ∷ []) lines
 none_more rows row lines job batch are = record {
   jobs = row_pushed is_waiting_job rows row lines.jobs job are.jobs;
   batch = row_pushed is_waiting_batch rows row lines.batch batch are.batch;
@@ -49,27 +56,36 @@ none_more rows row lines job batch are = record {
 -- the job of a row that waits is in its line
 pub in_batch : (row : Row) (lines : Lines) (due : Due) → is_waiting_batch row ≡ true → due ≡ due_of_row row
     → (prefix : List Row) × (suffix : List Row) × AreLinesOf (prefix ++ row ∷ suffix) lines → Contains lines.batch due
-in_batch row lines due waits of (prefix, suffix, are) = subst (Contains lines.batch) (sym of) (row_in_line is_waiting_batch prefix suffix row lines.batch waits are.batch)
+in_batch row lines due waits of (prefix, suffix, are) =
+    subst (Contains lines.batch) (sym of) (row_in_line is_waiting_batch prefix suffix row lines.batch waits are.batch)
 
 pub in_jobs : (row : Row) (lines : Lines) (due : Due) → is_waiting_job row ≡ true → due ≡ due_of_row row
     → (prefix : List Row) × (suffix : List Row) × AreLinesOf (prefix ++ row ∷ suffix) lines → Contains lines.jobs due
-in_jobs row lines due waits of (prefix, suffix, are) = subst (Contains lines.jobs) (sym of) (row_in_line is_waiting_job prefix suffix row lines.jobs waits are.jobs)
+in_jobs row lines due waits of (prefix, suffix, are) =
+    subst (Contains lines.jobs) (sym of) (row_in_line is_waiting_job prefix suffix row lines.jobs waits are.jobs)
 
-pub batch_less : (prefix suffix : List Row) (row : Row) (lines : Lines) (due : Due) (new : List Due) → is_waiting_batch row ≡ true → due ≡ due_of_row row
-    → IsPermutation lines.batch (due ∷ new) → AreInLine new → AreLinesOf (prefix ++ row ∷ suffix) lines → AreLinesOf (prefix ++ suffix) (record { jobs = lines.jobs; batch = new })
+pub batch_less : (prefix suffix : List Row) (row : Row) (lines : Lines) (due : Due) (new : List Due)
+    → is_waiting_batch row ≡ true → due ≡ due_of_row row
+    → IsPermutation lines.batch (due ∷ new) → AreInLine new → AreLinesOf (prefix ++ row ∷ suffix) lines
+    → AreLinesOf (prefix ++ suffix) (record { jobs = lines.jobs; batch = new })
 batch_less prefix suffix row lines due new waits of taken line are = record {
   jobs = row_unlisted is_waiting_job prefix suffix row lines.jobs (not_job row waits) are.jobs;
-  batch = row_less is_waiting_batch prefix suffix row lines.batch new waits (subst (λ (one : Due). IsPermutation lines.batch (one ∷ new)) of taken) line are.batch;
+  batch = row_less is_waiting_batch prefix suffix row lines.batch new waits
+      (subst (λ (one : Due). IsPermutation lines.batch (one ∷ new)) of taken) line are.batch;
 }
 
-pub job_less : (prefix suffix : List Row) (row : Row) (lines : Lines) (due : Due) (new : List Due) → is_waiting_job row ≡ true → due ≡ due_of_row row
-    → IsPermutation lines.jobs (due ∷ new) → AreInLine new → AreLinesOf (prefix ++ row ∷ suffix) lines → AreLinesOf (prefix ++ suffix) (record { jobs = new; batch = lines.batch })
+pub job_less : (prefix suffix : List Row) (row : Row) (lines : Lines) (due : Due) (new : List Due)
+    → is_waiting_job row ≡ true → due ≡ due_of_row row
+    → IsPermutation lines.jobs (due ∷ new) → AreInLine new → AreLinesOf (prefix ++ row ∷ suffix) lines
+    → AreLinesOf (prefix ++ suffix) (record { jobs = new; batch = lines.batch })
 job_less prefix suffix row lines due new waits of taken line are = record {
-  jobs = row_less is_waiting_job prefix suffix row lines.jobs new waits (subst (λ (one : Due). IsPermutation lines.jobs (one ∷ new)) of taken) line are.jobs;
+  jobs = row_less is_waiting_job prefix suffix row lines.jobs new waits
+      (subst (λ (one : Due). IsPermutation lines.jobs (one ∷ new)) of taken) line are.jobs;
   batch = row_unlisted is_waiting_batch prefix suffix row lines.batch (not_batch row waits) are.batch;
 }
 
-pub none_less : (prefix suffix : List Row) (row : Row) (lines : Lines) → is_waiting_job row ≡ false → is_waiting_batch row ≡ false → AreLinesOf (prefix ++ row ∷ suffix) lines → AreLinesOf (prefix ++ suffix) lines
+pub none_less : (prefix suffix : List Row) (row : Row) (lines : Lines) → is_waiting_job row ≡ false → is_waiting_batch row ≡ false
+    → AreLinesOf (prefix ++ row ∷ suffix) lines → AreLinesOf (prefix ++ suffix) lines
 none_less prefix suffix row lines job batch are = record {
   jobs = row_unlisted is_waiting_job prefix suffix row lines.jobs job are.jobs;
   batch = row_unlisted is_waiting_batch prefix suffix row lines.batch batch are.batch;
@@ -83,11 +99,13 @@ map_pairs due_jobs line i j d before within =
     let second = get_or-map due_place due_jobs j one d inside in
     rw (first, second) (line.ordered i j one before inside)
 
-numbers_of_places : (due_jobs : List Due) → map (λ (due : Due). due.number) due_jobs ≡ map (λ (place : ℕ × ℕ). place.1) (map due_place due_jobs)
+numbers_of_places : (due_jobs : List Due)
+    → map (λ (due : Due). due.number) due_jobs ≡ map (λ (place : ℕ × ℕ). place.1) (map due_place due_jobs)
 numbers_of_places [] = refl
 numbers_of_places (due ∷ due_jobs) = ap (λ (rest : List ℕ). due.number ∷ rest) (numbers_of_places due_jobs)
 
-pub line_is_due_order : (rows : List Row) (now : ℤ) (due_jobs : List Due) → IsLineOf (is_ready_job now) rows due_jobs → AreInDueOrder rows now (map (λ due. due.number) due_jobs)
+pub line_is_due_order : (rows : List Row) (now : ℤ) (due_jobs : List Due) → IsLineOf (is_ready_job now) rows due_jobs
+    → AreInDueOrder rows now (map (λ due. due.number) due_jobs)
 line_is_due_order rows now due_jobs is = record {
   places = map due_place due_jobs;
   same = is.same;
@@ -96,7 +114,8 @@ line_is_due_order rows now due_jobs is = record {
 }
 
 -- the head of a line is the first
-pub head_is_first : (rows : List Row) (now : ℤ) (due : Due) (later : List Due) → IsLineOf (is_ready_batch now) rows (due ∷ later) → IsFirstBatch rows now due.number
+pub head_is_first : (rows : List Row) (now : ℤ) (due : Due) (later : List Due) → IsLineOf (is_ready_batch now) rows (due ∷ later)
+    → IsFirstBatch rows now due.number
 head_is_first rows now due later is = record {
   minute = due.minute;
   first = record {

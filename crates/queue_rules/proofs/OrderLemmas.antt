@@ -24,7 +24,8 @@ abbrev Compared : Ordering → ℕ → ℕ → Type 0
 Compared answer x y = MatchOrdering answer (x < y) (x ≡ y) (y < x)
 
 -- a place that the second is not before, by the answers for minutes and numbers
-not_after-by : (first second : ℕ × ℕ) (minutes numbers : Ordering) → Compared minutes second.0 first.0 → Compared numbers second.1 first.1 → is_lt (ordering_then minutes numbers) ≡ false → IsNotAfter first second
+not_after-by : (first second : ℕ × ℕ) (minutes numbers : Ordering) → Compared minutes second.0 first.0 → Compared numbers second.1 first.1
+    → is_lt (ordering_then minutes numbers) ≡ false → IsNotAfter first second
 not_after-by first second Less numbers minute number kept = cc
 not_after-by first second Equal Less minute number kept = cc
 not_after-by first second Equal Equal minute number kept = inr (sym minute, omega arith)
@@ -37,7 +38,8 @@ not_after first second kept =
 
 -- places are ranked by their comparison
 place_ranks : IsStrictWeakOrder (λ (x : ℕ × ℕ) (y : ℕ × ℕ). is_lt (place_cmp x y))
-place_ranks = ranks_by (then_total (on_total (λ (t : ℕ × ℕ). t.0) nat_cmp_total) (on_total (λ (t : ℕ × ℕ). t.1) nat_cmp_total)) (λ place. place)
+place_ranks =
+    ranks_by (then_total (on_total (λ (t : ℕ × ℕ). t.0) nat_cmp_total) (on_total (λ (t : ℕ × ℕ). t.1) nat_cmp_total)) (λ place. place)
 
 -- sorted places are in order
 pub in_order : (places : List (ℕ × ℕ)) → IsSorted place_cmp places → AllPairs IsNotAfter places
@@ -57,7 +59,8 @@ not_after-trans first second third (inr a) (inr b) = inr (omega arith, omega ari
 abbrev IsEarlier : ℕ × ℕ → ℕ × ℕ → ℕ × ℕ → Type 0
 IsEarlier first second place = ((place ≡ first) × IsNotAfter first second) ⊎ ((place ≡ second) × IsNotAfter second first)
 
-earlier-by : (first second : ℕ × ℕ) (minutes numbers : Ordering) → Compared minutes first.0 second.0 → Compared numbers first.1 second.1 → IsEarlier first second (min_by_ordering (ordering_then minutes numbers) first second)
+earlier-by : (first second : ℕ × ℕ) (minutes numbers : Ordering) → Compared minutes first.0 second.0 → Compared numbers first.1 second.1
+    → IsEarlier first second (min_by_ordering (ordering_then minutes numbers) first second)
 earlier-by first second Less numbers minute number = inl (refl, inl minute)
 earlier-by first second Equal Less minute number = inl (refl, inr (minute, omega arith))
 earlier-by first second Equal Equal minute number = inl (refl, inr (minute, omega arith))
@@ -65,7 +68,8 @@ earlier-by first second Equal Greater minute number = inr (refl, inr (sym minute
 earlier-by first second Greater numbers minute number = inr (refl, inl minute)
 
 -- what is first among the earlier of two places and others is first among all of them
-first-more : (first second kept least : ℕ × ℕ) (others : List (ℕ × ℕ)) → IsEarlier first second kept → IsFirstOf (kept ∷ others) least → IsFirstOf (first ∷ second ∷ others) least
+first-more : (first second kept least : ℕ × ℕ) (others : List (ℕ × ℕ)) → IsEarlier first second kept → IsFirstOf (kept ∷ others) least
+    → IsFirstOf (first ∷ second ∷ others) least
 first-more first second kept least others (inl earlier) found =
     let all = first ∷ second ∷ others in
     let itself = All-contains_itself all in
@@ -73,9 +77,11 @@ first-more first second kept least others (inl earlier) found =
     let held = subst (λ (place : ℕ × ℕ). Contains all place) (sym earlier.0) (All-head (Contains all) first (second ∷ others) itself) in
     let here = subst (λ (place : ℕ × ℕ). IsNotAfter least place) earlier.0 (All-head (IsNotAfter least) kept others found.first) in
     record {
-      held = All-contains (Contains all) (kept ∷ others) least (All-cons (Contains all) kept others held (All-tail (Contains all) second others after)) found.held;
+      held = All-contains (Contains all) (kept ∷ others) least
+          (All-cons (Contains all) kept others held (All-tail (Contains all) second others after)) found.held;
       first = All-cons (IsNotAfter least) first (second ∷ others) here
-          (All-cons (IsNotAfter least) second others (not_after-trans least first second here earlier.1) (All-tail (IsNotAfter least) kept others found.first));
+          (All-cons (IsNotAfter least) second others (not_after-trans least first second here earlier.1)
+          (All-tail (IsNotAfter least) kept others found.first));
     }
 first-more first second kept least others (inr earlier) found =
     let all = first ∷ second ∷ others in
@@ -84,7 +90,8 @@ first-more first second kept least others (inr earlier) found =
     let held = subst (λ (place : ℕ × ℕ). Contains all place) (sym earlier.0) (All-head (Contains all) second others after) in
     let here = subst (λ (place : ℕ × ℕ). IsNotAfter least place) earlier.0 (All-head (IsNotAfter least) kept others found.first) in
     record {
-      held = All-contains (Contains all) (kept ∷ others) least (All-cons (Contains all) kept others held (All-tail (Contains all) second others after)) found.held;
+      held = All-contains (Contains all) (kept ∷ others) least
+          (All-cons (Contains all) kept others held (All-tail (Contains all) second others after)) found.held;
       first = All-cons (IsNotAfter least) first (second ∷ others) (not_after-trans least second first here earlier.1)
           (All-cons (IsNotAfter least) second others here (All-tail (IsNotAfter least) kept others found.first));
     }

@@ -30,11 +30,13 @@ kept_places : (test : Row → Bool) (rows : List Row) → All (λ place. IsNumbe
 kept_places test rows = All-map (λ place. IsNumberOf test rows place.1) place_in_queue (filter test rows) (kept_rows test rows)
 
 -- each number in due order is that of a ready row outside the batch queues
-pub due_numbers : (rows : List Row) (now : ℤ) (numbers : List ℕ) → AreInDueOrder rows now numbers → All (IsNumberOf (is_ready_job now) rows) numbers
+pub due_numbers : (rows : List Row) (now : ℤ) (numbers : List ℕ) → AreInDueOrder rows now numbers
+    → All (IsNumberOf (is_ready_job now) rows) numbers
 due_numbers rows now numbers due =
     subst (All (IsNumberOf (is_ready_job now) rows)) (sym due.numbered)
     (All-map (IsNumberOf (is_ready_job now) rows) (λ (place : ℕ × ℕ). place.1) due.places
-    (All-permutation (λ place. IsNumberOf (is_ready_job now) rows place.1) (places_of (is_ready_job now) rows) due.places due.same (kept_places (is_ready_job now) rows)))
+    (All-permutation (λ place. IsNumberOf (is_ready_job now) rows place.1) (places_of (is_ready_job now) rows) due.places due.same
+    (kept_places (is_ready_job now) rows)))
 
 -- the first number of the batch queues is that of a ready row there
 pub batch_number : (rows : List Row) (now : ℤ) (number : ℕ) → IsFirstBatch rows now number → IsNumberOf (is_ready_batch now) rows number
@@ -70,10 +72,12 @@ flips : (a b : ℕ) → (a == b) ≡ (b == a)
 flips a b = grind (arith, nat_tests)
 
 -- where the rows' numbers differ, those in due order do
-pub due_numbers_differ : (rows : List Row) (now : ℤ) (numbers : List ℕ) → Differ (row_numbers rows) → AreInDueOrder rows now numbers → Differ numbers
+pub due_numbers_differ : (rows : List Row) (now : ℤ) (numbers : List ℕ) → Differ (row_numbers rows)
+    → AreInDueOrder rows now numbers → Differ numbers
 due_numbers_differ rows now numbers differ due =
     let test = is_ready_job now in
-    let apart : AllPairs AreApart (filter test rows) = AllPairs-filter AreApart test rows (pairs_unmap (λ first second. first ≢ second) (λ row. row.number) rows differ) in
+    let apart : AllPairs AreApart (filter test rows) =
+    AllPairs-filter AreApart test rows (pairs_unmap (λ first second. first ≢ second) (λ row. row.number) rows differ) in
     let kept : Differ (map (λ place. place.1) (places_of test rows)) =
     pairs_map (λ first second. first ≢ second) (λ (place : ℕ × ℕ). place.1) (places_of test rows)
     (pairs_map (λ (first second : ℕ × ℕ). first.1 ≢ second.1) place_in_queue (filter test rows) apart) in
@@ -92,12 +96,15 @@ two_kinds now row job batch =
     cc
 
 -- where numbers differ, rows of one number are one row
-one_row : (rows : List Row) (first second : Row) → AllPairs AreApart rows → Contains rows first → Contains rows second → first.number ≡ second.number → first ≡ second
+one_row : (rows : List Row) (first second : Row) → AllPairs AreApart rows → Contains rows first → Contains rows second
+    → first.number ≡ second.number → first ≡ second
 one_row rows first second apart (i, inside, here) (j, within, there) same =
     elim (cases_lt i j) [
-      | inl before ↦ absurd (apart i j first before within (ap (λ (row : Row). row.number) here ∙ same ∙ sym (ap (λ (row : Row). row.number) (get_or_default rows j first second within ∙ there))))
+      | inl before ↦ absurd (apart i j first before within (ap (λ (row : Row). row.number) here ∙ same
+          ∙ sym (ap (λ (row : Row). row.number) (get_or_default rows j first second within ∙ there))))
       | inr after ↦ elim (cases_lt j i) [
-        | inl before ↦ absurd (apart j i second before inside (ap (λ (row : Row). row.number) there ∙ sym same ∙ sym (ap (λ (row : Row). row.number) (get_or_default rows i second first inside ∙ here))))
+        | inl before ↦ absurd (apart j i second before inside (ap (λ (row : Row). row.number) there ∙ sym same
+            ∙ sym (ap (λ (row : Row). row.number) (get_or_default rows i second first inside ∙ here))))
         | inr later ↦
             let place : i ≡ j = omega arith in
             sym here ∙ ap (λ (k : ℕ). slice_index_or rows k first) place ∙ get_or_default rows j first second within ∙ there
@@ -105,11 +112,13 @@ one_row rows first second apart (i, inside, here) (j, within, there) same =
     ]
 
 -- where the rows' numbers differ, the first number of the batch queues isn't in due order
-pub batch_is_apart : (rows : List Row) (now : ℤ) (numbers : List ℕ) (number : ℕ) → Differ (row_numbers rows) → AreInDueOrder rows now numbers
+pub batch_is_apart : (rows : List Row) (now : ℤ) (numbers : List ℕ) (number : ℕ) → Differ (row_numbers rows)
+    → AreInDueOrder rows now numbers
     → IsFirstBatch rows now number → All (λ other. other ≢ number) numbers
 batch_is_apart rows now numbers number differ due batch =
     let apart = pairs_unmap (λ first second. first ≢ second) (λ (row : Row). row.number) rows differ in
     let of = batch_number rows now number batch in
     All-weaker (IsNumberOf (is_ready_job now) rows) (λ other. other ≢ number) (λ other job same.
     let one : job.row ≡ of.row = one_row rows job.row of.row apart job.listed of.listed (job.named ∙ same ∙ sym of.named) in
-    two_kinds now job.row job.passes (subst (λ (row : Row). is_ready_batch now row ≡ true) (sym one) of.passes)) numbers (due_numbers rows now numbers due)
+    two_kinds now job.row job.passes (subst (λ (row : Row). is_ready_batch now row ≡ true) (sym one) of.passes)) numbers
+    (due_numbers rows now numbers due)

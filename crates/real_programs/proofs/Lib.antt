@@ -1,1 +1,4 @@
+pub mod ExitLemmas
+pub mod PostLemmas
 pub mod StatLemmas
+pub mod TrimLemmas

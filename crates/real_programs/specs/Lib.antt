@@ -1,1 +1,9 @@
+pub mod CheckRuns
 pub mod Exit
+pub mod Made
+pub mod NotingRuns
+pub mod PostRuns
+pub mod ProgramRuns
+pub mod RealRuns
+pub mod Runs
+pub mod Systems

@@ -1,32 +1,50 @@
-//! Each program on the real directory, clock and streams. All clauses of the program hold, for every witness.
+//! Each program over what it is lent: a directory, the target of a salvage, the clock, the input and two outputs. All
+//! clauses of the program hold, for every host and for every witness.
 //!
-//! For each program `.._answer` takes any witness of the directory, `.._over` has one that disputes nothing, and `run_..`
-//! does what the words of a process request. The clock and the streams record what they returned and accepted.
+//! `run_program` runs a program over what it is lent, so a caller that sees these things afterwards sees what was done.
+//! `real_system` makes the real ones, next to any witness, and `run_alone` is a main without the launcher.
 #![tactic(auto)]
 
 mod account;
-mod at;
+mod alone;
 mod check;
+mod commands;
 mod cron;
 mod directories;
 mod exit;
-mod next;
+mod made;
+mod noting;
 mod post;
+mod program;
+mod program_exit;
+mod real_run;
+mod run;
 mod stat;
 mod streams;
-mod trim;
+mod system;
+mod system_plan;
+mod target;
+mod witnesses;
 
-pub use account::{run_account, run_account_on_spool, run_account_with};
-pub use at::{run_at, run_at_on_spool, run_at_with};
-pub use check::{run_check, run_check_on_spool, run_check_with};
-pub use cron::{run_cron, run_cron_on_spool, run_cron_with};
+pub use account::run_account;
+pub use alone::run_alone;
+pub use check::run_check;
+pub use commands::run_commands;
+pub use cron::{run_cron, run_next};
 pub use directories::{RealDirectory, existing_directory, new_directory, spool_directory};
 pub use exit::exit_code;
-pub use next::{run_next, run_next_with};
-pub use post::{run_post, run_post_on_spool, run_post_with};
-pub use stat::{run_stat, run_stat_on_spool, run_stat_with, stat_exit_code};
+pub use made::{RealSystem, real_system};
+pub use post::{run_post, run_post_after_trim, run_trim};
+pub use program::Program;
+pub use program_exit::ProgramExit;
+pub use real_run::{RealRun, run_on_real_system};
+pub use run::run_program;
+pub use stat::run_stat;
 pub use streams::{
     RealClock, RealErrors, RealInput, RealOutput, real_clock, real_errors, real_input, real_output,
     watching_clock,
 };
-pub use trim::{run_trim_on_spool, run_trim_with};
+pub use system::ProgramSystem;
+pub use system_plan::SystemPlan;
+pub use target::SalvageTarget;
+pub use witnesses::{UNCHECKED, Witnesses};

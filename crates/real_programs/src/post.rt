@@ -1,78 +1,105 @@
-//! Mail over the real things.
-ghost use Rattle.std.specs.Prelude.{◌≡◌, IfOk, map, string_bytes};
+//! Mail, over what the program is lent.
+ghost use Rattle.std.specs.Prelude.{◌≡◌, ◌∷◌, [], IfOk, OnErr, codes, map, string_bytes};
 ghost use Rattle.host_calls.specs.Session.{IsOutside};
-ghost use Rattle.listing_text.specs.Cause.{status_of};
-ghost use Rattle.at_mail.specs.Program.{PostEnds, mail_outside};
-ghost use Rattle.at_mail.specs.Words.{post_asked};
+ghost use Rattle.real_programs.specs.PostRuns.{IsPostAfterTrim, PostsUnless, is_damage, trim_words};
+ghost use Rattle.real_programs.specs.Runs.{IsPostRun, IsTrimRun};
 
-use crate::directories::{RealDirectory, existing_directory};
-use crate::streams::{RealClock, RealErrors, real_clock, real_errors};
-use at_mail::post_program;
-use host_calls::{Host, Readings, Sink, Text};
-use listing_text::Status;
-use process_input::{StartupError, no_spool, process_words, take_directory};
+use crate::system::ProgramSystem;
+use at_mail::{post_program, trim_program};
+use host_calls::{Host, Readings, Sink};
+use listing_text::{Cause, Status};
 use std::alloc::{AllocError, Global};
-use unix_host::Waits;
-use witnessed_host::{Unchecked, Witness};
 
-/// Makes sessions of mail over the real things. What the directory holds is what the witness knows of it; the clock and
-/// the output tell what they answered and took.
-pub fn run_post_with<W: Witness + Drop>(
+/// Makes sessions of mail.
+pub fn run_post<D: Host, C: Readings, I, O, E: Sink>(
     alloc: Global,
     words: &[String],
-    directory: &mut RealDirectory<W>,
-    clock: &mut RealClock,
-    errors: &mut RealErrors,
+    system: &mut ProgramSystem<D, C, I, O, E>,
 ) -> Status
-    requires { IsOutside (⟦<RealDirectory<W> as Host>⟧.session directory.old) }
-    ensures code { result ≡ status_of result.cause }
-    ensures posts { let at = mail_outside ⟦<RealDirectory<W> as Host>⟧ ⟦<RealClock as Readings>⟧ ⟦<RealErrors as Sink>⟧
-        in
-        PostEnds (post_asked (map string_bytes words.now))
-        (at directory.old clock.old errors.old) (at directory.new clock.new errors.new) result.cause }
+    requires { IsOutside (D.session system.old.directory) }
+    ensures { IsPostRun D.Host C.Readings E.Sink (map string_bytes words.now) system.old system.new result }
 {
-    post_program(alloc, words, directory, clock, errors)
+    post_program(
+        alloc,
+        words,
+        &mut system.directory,
+        &mut system.clock,
+        &mut system.errors,
+    )
 }
 
-/// The same over the directory of this path, next to which nobody disputes anything, with rests by this clock.
-pub fn run_post_on_spool(
-    rt: &HostRuntime,
+/// Makes one trim of the notes of mail.
+pub fn run_trim<D: Host, C, I, O, E: Sink>(
+    alloc: Global,
     words: &[String],
-    spool: Text,
-    waits: Waits,
-    clock: &mut RealClock,
+    system: &mut ProgramSystem<D, C, I, O, E>,
+) -> Status
+    requires { IsOutside (D.session system.old.directory) }
+    ensures run { IsTrimRun D.Host E.Sink (map string_bytes words.now) system.old system.new result }
+    ensures outside { IsOutside (D.session system.new.directory) }
+{
+    trim_program(alloc, words, &mut system.directory, &mut system.errors)
+}
+
+/// Makes one trim, and then sessions of mail. A trim that reports a damage ends the program, since each session would
+/// report it again.
+pub fn run_post_after_trim<D: Host, C: Readings, I, O, E: Sink>(
+    alloc: Global,
+    words: &[String],
+    system: &mut ProgramSystem<D, C, I, O, E>,
 ) -> Result<Status, AllocError>
-    ensures code { IfOk result (λ status. status ≡ status_of status.cause) }
+    requires { IsOutside (D.session system.old.directory) }
+    ensures run { IfOk result (λ status. IsPostAfterTrim D.Host C.Readings E.Sink (map string_bytes words.now)
+        system.old system.new status) }
+    ensures unrun { OnErr result (system.new ≡ system.old) }
 {
-    let mut errors = real_errors(rt)?;
-    let mut directory = existing_directory(rt, spool, waits, Unchecked)?;
-    Ok(run_post_with(rt.alloc(), words, &mut directory, clock, &mut errors))
+    let trim = trim_words(alloc)?;
+    let trimmed = trim_by(alloc, &trim, system);
+    Ok(post_unless(alloc, is_damage(&trimmed.cause), trimmed, words, system))
 }
 
-// The same where no directory is named: the program has nothing to do, over a host in memory.
-fn run_post_without_spool(rt: &HostRuntime, clock: &mut RealClock) -> Result<Status, AllocError>
-    ensures code { IfOk result (λ status. status ≡ status_of status.cause) }
+fn trim_words(alloc: Global) -> Result<Vec<String>, AllocError>
+    ensures { IfOk result (λ words. map string_bytes words.items ≡ trim_words) }
 {
-    let mut errors = real_errors(rt)?;
-    let mut directory = no_spool(rt.alloc())?;
-    Ok(post_program(rt.alloc(), &[], &mut directory, clock, &mut errors))
+    let program = String::from_str(alloc, "atpost")?;
+    let option = String::from_str(alloc, "--trim")?;
+    Ok(vec![in alloc; program, option]?)
 }
 
-/// Does what the words of this process request over the directory that the first of them names.
-pub fn run_post(rt: &HostRuntime) -> Result<Status, StartupError>
-    ensures code { IfOk result (λ status. status ≡ status_of status.cause) }
+// A trim by those words.
+fn trim_by<D: Host, C, I, O, E: Sink>(
+    alloc: Global,
+    words: &[String],
+    system: &mut ProgramSystem<D, C, I, O, E>,
+) -> Status
+    requires outside { IsOutside (D.session system.old.directory) }
+    requires words { map string_bytes words.now ≡ trim_words }
+    ensures run { IsTrimRun D.Host E.Sink trim_words system.old system.new result }
+    ensures outside { IsOutside (D.session system.new.directory) }
 {
-    let mut words = process_words(rt)?;
-    let mut clock = real_clock(rt)?;
-    let status = match take_directory(&mut words) {
-        Some(directory) => run_post_on_spool(
-            rt,
-            &words,
-            Text::from(directory),
-            Waits::Asking,
-            &mut clock,
-        )?,
-        None => run_post_without_spool(rt, &mut clock)?,
-    };
-    Ok(status)
+    run_trim(alloc, words, system)
+}
+
+fn is_damage(cause: &Cause) -> bool
+    ensures { result ≡ is_damage cause.now }
+{
+    matches!(cause, Cause::Damaged(_))
+}
+
+// The status of the trim where it stops the program; else that of the sessions.
+fn post_unless<D: Host, C: Readings, I, O, E: Sink>(
+    alloc: Global,
+    is_stopped: bool,
+    trimmed: Status,
+    words: &[String],
+    system: &mut ProgramSystem<D, C, I, O, E>,
+) -> Status
+    requires { IsOutside (D.session system.old.directory) }
+    ensures { PostsUnless is_stopped D.Host C.Readings E.Sink (map string_bytes words.now) system.old trimmed
+        system.new result }
+{
+    if is_stopped {
+        return trimmed;
+    }
+    run_post(alloc, words, system)
 }

@@ -28,8 +28,11 @@ spelled_both spells bytes added (one ∷ later) more (rest, (begins, first)) sec
 pub legal_both : {R : Type 0} (legal : List R → R → Type 0) (before records more : List R)
     → AreLegalAfter legal before records → AreLegalAfter legal (before ++ records) more → AreLegalAfter legal before (records ++ more)
 legal_both legal before [] more first second = subst (λ all. AreLegalAfter legal all more) (append-nil before) second
-legal_both legal before (one ∷ later) more (may, first) second =
-    (may, legal_both legal (before ++ one ∷ []) later more first (subst (λ all. AreLegalAfter legal all more) (sym (append_assoc before (one ∷ []) later)) second))
+legal_both legal before (one ∷ later) more (may, first) second = (
+  may,
+  legal_both legal (before ++ one ∷ []) later more first
+      (subst (λ all. AreLegalAfter legal all more) (sym (append_assoc before (one ∷ []) later)) second),
+)
 
 -- a file and lines that may come after its own
 pub lines_both : {R : Type 0} (spells : List ℕ → R → Type 0) (legal : List R → R → Type 0) (bytes added : List ℕ) (records more : List R)
@@ -46,7 +49,8 @@ line_more : {R : Type 0} (spells : List ℕ → R → Type 0) (bytes line : List
     → AreSpelled spells ((bytes ++ line) ++ 10 ∷ []) (records ++ one ∷ [])
 line_more spells bytes line records one first whole spelled =
     subst (λ text. AreSpelled spells text (records ++ one ∷ [])) (sym (append_assoc bytes line (10 ∷ [])))
-    (spelled_both spells bytes (line ++ 10 ∷ []) records (one ∷ []) first ([], (record { line = line; whole = whole; parted = refl; spelled = spelled }, refl)))
+    (spelled_both spells bytes (line ++ 10 ∷ []) records (one ∷ []) first
+    ([], (record { line = line; whole = whole; parted = refl; spelled = spelled }, refl)))
 
 -- and of the record at a place
 pub line_at : {R : Type 0} (spells : List ℕ → R → Type 0) (bytes line text : List ℕ) (records : List R) (place : ℕ) (one : R)
@@ -54,7 +58,8 @@ pub line_at : {R : Type 0} (spells : List ℕ → R → Type 0) (bytes line text
     → AreSpelled spells bytes (take place records) → HasNoNewline line → spells line one
     → AreSpelled spells (text ++ 10 ∷ []) (take (place + 1) records)
 line_at spells bytes line text records place one inside here added first whole spelled =
-    let entry : take (place + 1) records ≡ take place records ++ one ∷ [] = take_more records place one inside ∙ ap (λ r. take place records ++ r ∷ []) (sym here) in
+    let entry : take (place + 1) records ≡ take place records ++ one ∷ [] = take_more records place one inside
+    ∙ ap (λ r. take place records ++ r ∷ []) (sym here) in
     rw (entry, added) (line_more spells bytes line (take place records) one first whole spelled)
 
 -- one line and its newline, of what begins with them
@@ -64,15 +69,20 @@ take_line line rest count counted =
     ap (take count) (sym (append_assoc line (10 ∷ []) rest)) ∙ take_at (line ++ 10 ∷ []) rest count same
 
 -- a good line after a file's makes a longer file
-pub good_more : {R : Type 0} (spells : List ℕ → R → Type 0) (legal : List R → R → Type 0) (bytes : List ℕ) (offset : ℕ) (records : List R) (one : R) (count : ℕ)
+pub good_more : {R : Type 0} (spells : List ℕ → R → Type 0) (legal : List R → R → Type 0) (bytes : List ℕ) (offset : ℕ)
+    (records : List R) (one : R) (count : ℕ)
     → AreRecordLines spells legal (take offset bytes) records → IsGoodLine spells legal records (drop offset bytes) one count
     → AreRecordLines spells legal (take (offset + count) bytes) (records ++ one ∷ [])
 good_more spells legal bytes offset records one count file good =
     let begins = good.begins in
     let parted : length (drop offset bytes) ≡ length (begins.line ++ 10 ∷ good.rest) = ap length begins.parted in
-    let counted : count ≡ length begins.line + 1 = let all : length (begins.line ++ 10 ∷ good.rest) ≡ length begins.line + (1 + length good.rest) = simp length-append (omega arith) in let here = good.counted in omega arith in
+    let counted : count ≡ length begins.line + 1 = let all : length (begins.line ++ 10 ∷ good.rest)
+    ≡ length begins.line + (1 + length good.rest) = simp length-append (omega arith) in
+    let here = good.counted in
+    omega arith in
     let text : take (offset + count) bytes ≡ take offset bytes ++ (begins.line ++ 10 ∷ []) =
-    take-add offset count bytes ∙ ap (λ more. take offset bytes ++ more) (ap (take count) begins.parted ∙ take_line begins.line good.rest count counted) in
+    take-add offset count bytes
+    ∙ ap (λ more. take offset bytes ++ more) (ap (take count) begins.parted ∙ take_line begins.line good.rest count counted) in
     subst (λ all. AreRecordLines spells legal all (records ++ one ∷ [])) (sym text)
     (lines_both spells legal (take offset bytes) (begins.line ++ 10 ∷ []) records (one ∷ []) file
     ([], (record { line = begins.line; whole = begins.whole; parted = refl; spelled = begins.spelled }, refl)) (good.may, tt))
@@ -82,7 +92,8 @@ none_spelled : {R : Type 0} (spells : List ℕ → R → Type 0) (records : List
 none_spelled spells [] spelled = refl
 none_spelled spells (one ∷ later) (rest, (begins, spelled)) =
     let counted : length (begins.line ++ 10 ∷ rest) ≡ 0 = sym (ap length begins.parted) in
-    absurd (let all : length (begins.line ++ 10 ∷ rest) ≡ length begins.line + (1 + length rest) = simp length-append (omega arith) in omega arith)
+    absurd (let all : length (begins.line ++ 10 ∷ rest) ≡ length begins.line + (1 + length rest) =
+    simp length-append (omega arith) in omega arith)
 
 -- what the lines after a file's own spell
 pub record IsRest {R : Type 0} (spells : List ℕ → R → Type 0) (bytes : List ℕ) (early records : List R) : Type 0 where
@@ -98,13 +109,17 @@ spelled_rest spells unique first second [] records of_first of_all = record {
   spelled = subst (λ text. AreSpelled spells (text ++ second) records) of_first of_all;
 }
 spelled_rest spells unique first second (one ∷ later) [] (rest, (begins, of_first)) of_all =
-    let counted : length ((begins.line ++ 10 ∷ rest) ++ second) ≡ 0 = sym (ap (λ text. length (text ++ second)) begins.parted) ∙ ap length of_all in
-    absurd (let all : length ((begins.line ++ 10 ∷ rest) ++ second) ≡ (length begins.line + (1 + length rest)) + length second = simp length-append (omega arith) in omega arith)
+    let counted : length ((begins.line ++ 10 ∷ rest) ++ second) ≡ 0 =
+    sym (ap (λ text. length (text ++ second)) begins.parted) ∙ ap length of_all in
+    absurd (let all : length ((begins.line ++ 10 ∷ rest) ++ second) ≡ (length begins.line + (1 + length rest)) + length second =
+    simp length-append (omega arith) in omega arith)
 spelled_rest spells unique first second (one ∷ later) (other ∷ records) (rest, (begins, of_first)) (left, (starts, of_all)) =
-    let same : begins.line ++ 10 ∷ (rest ++ second) ≡ starts.line ++ 10 ∷ left = sym (append_assoc begins.line (10 ∷ rest) second) ∙ ap (λ text. text ++ second) (sym begins.parted) ∙ starts.parted in
+    let same : begins.line ++ 10 ∷ (rest ++ second) ≡ starts.line ++ 10 ∷ left = sym (append_assoc begins.line (10 ∷ rest) second)
+    ∙ ap (λ text. text ++ second) (sym begins.parted) ∙ starts.parted in
     let both = one_split 10 begins.line starts.line (rest ++ second) left begins.whole starts.whole same in
     let equal : one ≡ other = unique starts.line one other (subst (λ line. spells line one) both.0 begins.spelled) starts.spelled in
-    let deeper = spelled_rest spells unique rest second later records of_first (subst (λ text. AreSpelled spells text records) (sym both.1) of_all) in
+    let deeper =
+    spelled_rest spells unique rest second later records of_first (subst (λ text. AreSpelled spells text records) (sym both.1) of_all) in
     record {
       rest = deeper.rest;
       whole = ap (λ r. r ∷ records) (sym equal) ∙ ap (λ list. one ∷ list) deeper.whole;
@@ -114,18 +129,22 @@ spelled_rest spells unique first second (one ∷ later) (other ∷ records) (res
 pub one_list : {R : Type 0} (spells : List ℕ → R → Type 0) → SpellsOne spells → (bytes : List ℕ) (first second : List R)
     → AreSpelled spells bytes first → AreSpelled spells bytes second → first ≡ second
 one_list spells unique bytes first second of_first of_second =
-    let left = spelled_rest spells unique bytes [] second first of_second (subst (λ text. AreSpelled spells text first) (sym (append-nil bytes)) of_first) in
+    let left = spelled_rest spells unique bytes [] second first of_second
+    (subst (λ text. AreSpelled spells text first) (sym (append-nil bytes)) of_first) in
     left.whole ∙ ap (λ rest. second ++ rest) (none_spelled spells left.rest left.spelled) ∙ append-nil second
 
 -- the later ones of records that may come
-legal_rest : {R : Type 0} (legal : List R → R → Type 0) (before early rest : List R) → AreLegalAfter legal before (early ++ rest) → AreLegalAfter legal (before ++ early) rest
+legal_rest : {R : Type 0} (legal : List R → R → Type 0) (before early rest : List R) → AreLegalAfter legal before (early ++ rest)
+    → AreLegalAfter legal (before ++ early) rest
 legal_rest legal before [] rest all = subst (λ list. AreLegalAfter legal list rest) (sym (append-nil before)) all
 legal_rest legal before (one ∷ early) rest (may, all) =
-    subst (λ list. AreLegalAfter legal list rest) (append_assoc before (one ∷ []) early) (legal_rest legal (before ++ one ∷ []) early rest all)
+    subst (λ list. AreLegalAfter legal list rest) (append_assoc before (one ∷ []) early)
+    (legal_rest legal (before ++ one ∷ []) early rest all)
 
 -- where lines spell records that may come, the first line isn't bad
 not_bad : {R : Type 0} (spells : List ℕ → R → Type 0) (legal : List R → R → Type 0) (early rest : List R) (bytes more : List ℕ)
-    → 0 < length bytes → AreSpelled spells bytes rest → AreLegalAfter legal early rest → HasBadFirstLine spells legal early (bytes ++ more) → ⊥
+    → 0 < length bytes → AreSpelled spells bytes rest → AreLegalAfter legal early rest
+    → HasBadFirstLine spells legal early (bytes ++ more) → ⊥
 not_bad spells legal early [] bytes more some spelled may bad = let none : length bytes ≡ 0 = ap length spelled in omega arith
 not_bad spells legal early (one ∷ later) bytes more some (rest, (begins, spelled)) (may, _) bad = by_case bad where
   begin : bytes ++ more ≡ begins.line ++ 10 ∷ (rest ++ more)
@@ -137,7 +156,8 @@ not_bad spells legal early (one ∷ later) bytes more some (rest, (begins, spell
       let both = one_split 10 line begins.line left (rest ++ more) whole begins.whole (sym parted ∙ begin) in
       none one (subst (λ text. spells text one) (sym both.0) begins.spelled) may
 
-pub none_bad : {R : Type 0} (spells : List ℕ → R → Type 0) (legal : List R → R → Type 0) → SpellsOne spells → (bytes : List ℕ) (records : List R) (offset : ℕ)
+pub none_bad : {R : Type 0} (spells : List ℕ → R → Type 0) (legal : List R → R → Type 0) → SpellsOne spells
+    → (bytes : List ℕ) (records : List R) (offset : ℕ)
     → AreRecordLines spells legal bytes records → IsFirstBadLine spells legal bytes offset → ⊥
 none_bad spells legal unique bytes records offset file first =
     let left = spelled_rest spells unique (take offset bytes) (drop offset bytes) first.records records first.before.spelled
@@ -163,7 +183,8 @@ not_before spells legal unique bytes one two first second before =
     (legal_rest legal [] first.records left.rest (subst (AreLegalAfter legal []) left.whole second.before.in_turn))
     (subst (HasBadFirstLine spells legal first.records) (sym (take-append-drop count (drop one bytes))) first.bad)
 
-pub one_offset : {R : Type 0} (spells : List ℕ → R → Type 0) (legal : List R → R → Type 0) → SpellsOne spells → (bytes : List ℕ) (one two : ℕ)
+pub one_offset : {R : Type 0} (spells : List ℕ → R → Type 0) (legal : List R → R → Type 0) → SpellsOne spells
+    → (bytes : List ℕ) (one two : ℕ)
     → IsFirstBadLine spells legal bytes one → IsFirstBadLine spells legal bytes two → one ≡ two
 one_offset spells legal unique bytes one two first second =
     let least : ¬ (one < two) = not_before spells legal unique bytes one two first second in
@@ -175,7 +196,9 @@ pub range_left : (bytes : List ℕ) (offset : ℕ) → take (length bytes - offs
 range_left bytes offset = take_all (length bytes - offset) (drop offset bytes) (omega (arith, length-drop offset bytes))
 
 -- what lines spell can be spelled
-pub all_can : {R : Type 0} (spells : List ℕ → R → Type 0) (bytes : List ℕ) (records : List R) → AreSpelled spells bytes records → All (CanBeSpelled spells) records
+pub all_can : {R : Type 0} (spells : List ℕ → R → Type 0) (bytes : List ℕ) (records : List R) → AreSpelled spells bytes records
+    → All (CanBeSpelled spells) records
 all_can spells bytes [] spelled = All-nil (CanBeSpelled spells)
 all_can spells bytes (one ∷ later) (rest, (begins, spelled)) =
-    All-cons (CanBeSpelled spells) one later (record { line = begins.line; whole = begins.whole; spelled = begins.spelled }) (all_can spells rest later spelled)
+    All-cons (CanBeSpelled spells) one later (record { line = begins.line; whole = begins.whole; spelled = begins.spelled })
+    (all_can spells rest later spelled)

@@ -19,11 +19,13 @@ pub record EndsAt (bytes : List ℕ) (end : ℕ) : Type 0 where
   pub parted : bytes ≡ take end bytes ++ 10 ∷ drop (end + 1) bytes
   pub counted : length bytes ≡ (end + 1) + length (drop (end + 1) bytes)
 
-each_before : (byte : ℕ) (bytes : List ℕ) (end : ℕ) → ((place : ℕ) → place < end → (get_or bytes place 0 == byte) ≡ false) → HasNone byte (take end bytes)
+each_before : (byte : ℕ) (bytes : List ℕ) (end : ℕ) → ((place : ℕ) → place < end → (get_or bytes place 0 == byte) ≡ false)
+    → HasNone byte (take end bytes)
 each_before byte [] zero none = refl
 each_before byte [] (suc end) none = refl
 each_before byte (first ∷ later) zero none = refl
-each_before byte (first ∷ later) (suc end) none = rw (none 0 (omega arith)) (each_before byte later end (λ place below. none (suc place) (omega arith)))
+each_before byte (first ∷ later) (suc end) none =
+    rw (none 0 (omega arith)) (each_before byte later end (λ place below. none (suc place) (omega arith)))
 
 -- before the first such byte there is none
 pub none_before : (byte : ℕ) (bytes : List ℕ) (end : ℕ) → position (λ other. other == byte) bytes ≡ Some end → HasNone byte (take end bytes)
@@ -36,7 +38,8 @@ line_ends bytes end found =
     let inside : end < length bytes = first.0 in
     let newline : get_or bytes end 0 ≡ 10 = let test : is_newline (get_or bytes end 0) ≡ true = first.1 in grind (arith, nat_tests) in
     let parted : bytes ≡ take end bytes ++ 10 ∷ drop (end + 1) bytes =
-    sym (take-append-drop end bytes) ∙ ap (λ rest. take end bytes ++ rest) (drop-cons bytes end 0 inside ∙ ap (λ byte. byte ∷ drop (suc end) bytes) newline ∙ ap (λ place. 10 ∷ drop place bytes) (sym (add-one end))) in
+    sym (take-append-drop end bytes) ∙ ap (λ rest. take end bytes ++ rest) (drop-cons bytes end 0 inside
+    ∙ ap (λ byte. byte ∷ drop (suc end) bytes) newline ∙ ap (λ place. 10 ∷ drop place bytes) (sym (add-one end))) in
     record {
       whole = none_before 10 bytes end found;
       parted = parted;
@@ -44,7 +47,8 @@ line_ends bytes end found =
     }
 
 none_later : (bytes : List ℕ) (byte : ℕ) → ((position_or_len is_newline bytes < length bytes → ⊥) → list_any is_newline bytes ≡ false)
-    → (position_or_len is_newline (byte ∷ bytes) < length (byte ∷ bytes) → ⊥) → (newline : Bool) → is_newline byte ≡ newline → list_any is_newline (byte ∷ bytes) ≡ false
+    → (position_or_len is_newline (byte ∷ bytes) < length (byte ∷ bytes) → ⊥) → (newline : Bool) → is_newline byte ≡ newline
+    → list_any is_newline (byte ∷ bytes) ≡ false
 none_later bytes byte later far true is = absurd (far (rw is (omega arith)))
 none_later bytes byte later far false is = rw is (later (λ near. far (rw is (omega arith))))
 
@@ -54,14 +58,17 @@ none_found (byte ∷ bytes) far = none_later bytes byte (none_found bytes) far (
 
 -- and that there is none
 pub no_line_ends : (bytes : List ℕ) → position is_newline bytes ≡ None → HasNoNewline bytes
-no_line_ends bytes none = none_found bytes (λ near. let test : nat_lt (position_or_len is_newline bytes) (length bytes) ≡ true = grind (arith, nat_tests) in
-    absurd (let some : Some (position_or_len is_newline bytes) ≡ None = sym (ap (λ b. cond b (Some (position_or_len is_newline bytes)) None) test) ∙ none in cc))
+no_line_ends bytes none =
+    none_found bytes (λ near. let test : nat_lt (position_or_len is_newline bytes) (length bytes) ≡ true = grind (arith, nat_tests) in
+    absurd (let some : Some (position_or_len is_newline bytes) ≡ None =
+    sym (ap (λ b. cond b (Some (position_or_len is_newline bytes)) None) test) ∙ none in cc))
 
 other_byte : (first byte : ℕ) → (first == byte) ≡ false → first ≡ byte → ⊥
 other_byte first byte apart same = let test : (first == byte) ≡ true = grind (arith, nat_tests) in cc
 
 -- what has no such byte ends at the first one
-pub one_split : (byte : ℕ) (first second one two : List ℕ) → HasNone byte first → HasNone byte second → first ++ byte ∷ one ≡ second ++ byte ∷ two
+pub one_split : (byte : ℕ) (first second one two : List ℕ) → HasNone byte first → HasNone byte second
+    → first ++ byte ∷ one ≡ second ++ byte ∷ two
     → (first ≡ second) × (one ≡ two)
 one_split byte [] [] one two of_first of_second same = (refl, cc)
 one_split byte [] (other ∷ second) one two of_first of_second same =
@@ -82,7 +89,8 @@ none_of test byte (first ∷ later) fails all =
     by_test (first == byte) refl parts.0 (none_of test byte later fails parts.1)
   where
     by_test : (same : Bool) → (first == byte) ≡ same → test first ≡ true → HasNone byte later → HasNone byte (first ∷ later)
-    by_test true is passes none = absurd (let first_is : first ≡ byte = grind (arith, nat_tests) in let says : test first ≡ false = ap test first_is ∙ fails in cc)
+    by_test true is passes none =
+        absurd (let first_is : first ≡ byte = grind (arith, nat_tests) in let says : test first ≡ false = ap test first_is ∙ fails in cc)
     by_test false is passes none = rw is none
 
 -- nor has what comes of two that have none

@@ -11,7 +11,8 @@ use Rattle.std.proofs.lemmas.Bool.Decides.{nat_tests}
 use Rattle.std.proofs.lemmas.List.Folds.{list_any-append}
 
 -- one more record
-pub any_more : {R : Type 0} (test : R → Bool) (records : List R) (next : R) → list_any test (records ++ next ∷ []) ≡ (list_any test records || test next)
+pub any_more : {R : Type 0} (test : R → Bool) (records : List R) (next : R)
+    → list_any test (records ++ next ∷ []) ≡ (list_any test records || test next)
 any_more test records next = list_any-append test records (next ∷ []) ∙ ap (λ last. list_any test records || last) (or-false (test next))
 
 -- what no record names, no record says anything of

@@ -31,9 +31,11 @@ pub have_children : (children : List Child) (kids : List Kid) → AreChildren ch
 have_children children kids are = record { each = λ kid has. list_any-from_Contains tells kid.child children (are.each kid has) }
 
 -- they stay so where the children stay first
-pub children_kept : (children more : List Child) (kids : List Kid) → KeepsChildren children more → HaveChildren children kids → HaveChildren more kids
+pub children_kept : (children more : List Child) (kids : List Kid) → KeepsChildren children more → HaveChildren children kids
+    → HaveChildren more kids
 children_kept children more kids kept have =
     let are : AreChildren children kids = are_children children kids have in
     have_children more kids (record {
-      each = λ kid has. subst (λ (all : List Child). Contains all kid.child) (sym kept.1) (Contains-append_left children kept.0 kid.child (are.each kid has));
+      each = λ kid has. subst (λ (all : List Child). Contains all kid.child) (sym kept.1)
+          (Contains-append_left children kept.0 kid.child (are.each kid has));
     })

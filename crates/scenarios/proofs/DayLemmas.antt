@@ -22,7 +22,8 @@ no_prefix : (prefix later : List Event) → prefix ++ later ≡ [] → prefix �
 no_prefix [] later none = refl
 no_prefix (event ∷ prefix) later none = cc
 
-host_left : (old : MemoryHost) (outcomes : List EventOutcome) → events_of outcomes ≡ [] → (machine_after (first_machine old) outcomes).host ≡ old
+host_left : (old : MemoryHost) (outcomes : List EventOutcome) → events_of outcomes ≡ []
+    → (machine_after (first_machine old) outcomes).host ≡ old
 host_left old outcomes none = ap (λ (of : List EventOutcome). (machine_after (first_machine old) of).host) (no_outcomes outcomes none)
 
 children_of_day : (old new : MemoryHost) (report : DayReport) → IsDay [] old new report →

@@ -1,3 +1,4 @@
 pub mod DrawingLemmas
+pub mod FirstBytes
 pub mod LastNumbers
 pub mod SequenceLemmas

@@ -38,18 +38,22 @@ fits_none true byte = refl
 fits_none false byte = refl
 
 -- each byte of a right file fits its place
-spelled_fits : (new_form : Bool) (bytes : List ℕ) (number place : ℕ) → SpellsIn new_form bytes number → place < 1 + number_digits new_form → fits_at new_form place (slice_index bytes place) ≡ true
+spelled_fits : (new_form : Bool) (bytes : List ℕ) (number place : ℕ) → SpellsIn new_form bytes number → place < 1 + number_digits new_form
+    → fits_at new_form place (slice_index bytes place) ≡ true
 spelled_fits new_form bytes number place spelled inside =
     let at_most : place ≤ number_digits new_form = omega arith in
     let long : number_digits new_form ≤ length bytes = omega (arith, spelled.counted) in
-    let prefix : length (take (number_digits new_form) bytes) ≡ number_digits new_form = length-take-le (number_digits new_form) bytes long in
+    let prefix : length (take (number_digits new_form) bytes) ≡ number_digits new_form =
+    length-take-le (number_digits new_form) bytes long in
     elim (eq-or-lt_of_le at_most) [
-      | inl same ↦ let last : fits_at new_form (number_digits new_form) (slice_index bytes (number_digits new_form)) ≡ true = ap (fits_at new_form (number_digits new_form)) spelled.newline ∙ fits_newline_byte new_form in
+      | inl same ↦ let last : fits_at new_form (number_digits new_form) (slice_index bytes (number_digits new_form)) ≡ true =
+          ap (fits_at new_form (number_digits new_form)) spelled.newline ∙ fits_newline_byte new_form in
           subst (λ at. fits_at new_form at (slice_index bytes at) ≡ true) (sym same) last
       | inr early ↦
           let digit : slice_index bytes place ≡ digit_byte (digit_at number (length (take (number_digits new_form) bytes) - 1 - place)) =
           sym (get_or-take (number_digits new_form) bytes place 0 early) ∙ spelled.digits.each place (omega arith) in
-          fits_digit new_form place (slice_index bytes place) early ∙ ap is_digit digit ∙ digit_fits _ (mod_below (number / 16 ^ (length (take (number_digits new_form) bytes) - 1 - place)) 16 (omega arith))
+          fits_digit new_form place (slice_index bytes place) early ∙ ap is_digit digit
+          ∙ digit_fits _ (mod_below (number / 16 ^ (length (take (number_digits new_form) bytes) - 1 - place)) 16 (omega arith))
     ]
 
 -- a byte that is a digit is that of one
@@ -66,13 +70,19 @@ digit_found byte is = by_range (is_in_range 48 57 byte) refl where
       (byte - 87, omega arith, grind (arith, nat_tests))
 
 -- bytes that are all digits spell a number
-digits_spell : (bytes : List ℕ) (count : ℕ) → count ≤ length bytes → ((place : ℕ) → place < count → is_digit (slice_index bytes place) ≡ true) → (number : ℕ) × SpellsNumber (take count bytes) number
+digits_spell : (bytes : List ℕ) (count : ℕ) → count ≤ length bytes
+    → ((place : ℕ) → place < count → is_digit (slice_index bytes place) ≡ true) → (number : ℕ) × SpellsNumber (take count bytes) number
 digits_spell bytes zero inside each = (0, record { fits = omega arith; each = λ place none. absurd (omega arith) })
 digits_spell bytes (suc count) inside each =
-    let before : (number : ℕ) × SpellsNumber (take count bytes) number = digits_spell bytes count (omega arith) (λ place early. each place (omega arith)) in
-    let digit : (digit : ℕ) × (digit < 16) × (slice_index bytes count ≡ digit_byte digit) = digit_found (slice_index bytes count) (each count (omega arith)) in
-    let one : count + 1 ≡ suc count = omega arith in
-    (before.0 * 16 + digit.0, subst (λ some. SpellsNumber (take some bytes) (before.0 * 16 + digit.0)) one (read_more bytes count before.0 digit.0 before.1 (omega arith) digit.1 digit.2))
+    let before : (number : ℕ) × SpellsNumber (take count bytes) number =
+    digits_spell bytes count (omega arith) (λ place early. each place (omega arith)) in
+    let digit : (digit : ℕ) × (digit < 16) × (slice_index bytes count ≡ digit_byte digit) =
+    digit_found (slice_index bytes count) (each count (omega arith)) in
+    let one : count + 1 ≡ suc count = omega arith in (
+      before.0 * 16 + digit.0,
+      subst (λ some. SpellsNumber (take some bytes) (before.0 * 16 + digit.0)) one
+          (read_more bytes count before.0 digit.0 before.1 (omega arith) digit.1 digit.2),
+    )
 
 -- no more than the digits and the newline fit
 few_fit : (new_form : Bool) (bytes : List ℕ) (count : ℕ) → IsFittingPrefix new_form bytes count → count ≤ 1 + number_digits new_form
@@ -81,7 +91,8 @@ few_fit new_form bytes count fitting = by_test (nat_le count (1 + number_digits 
   by_test true is = grind (arith, nat_tests)
   by_test false is =
       let more : 1 + number_digits new_form < count = grind (arith, nat_tests) in
-      let impossible : false ≡ true = sym (fits_none new_form (slice_index bytes (1 + number_digits new_form))) ∙ fitting.each (1 + number_digits new_form) more in
+      let impossible : false ≡ true = sym (fits_none new_form (slice_index bytes (1 + number_digits new_form)))
+      ∙ fitting.each (1 + number_digits new_form) more in
       cc
 
 -- the prefix of the bytes, and zeros up to so many digits
@@ -90,10 +101,12 @@ filled digits bytes count = take digits (take count bytes ++ replicate digits 48
 
 filled_counted : (digits : ℕ) (bytes : List ℕ) (count : ℕ) → length (filled digits bytes count) ≡ digits
 unfolding filled
-filled_counted digits bytes count = length-take-le digits (take count bytes ++ replicate digits 48) (omega (arith, length-append (take count bytes) (replicate digits 48), length-replicate {A = ℕ} digits 48))
+filled_counted digits bytes count = length-take-le digits (take count bytes ++ replicate digits 48)
+    (omega (arith, length-append (take count bytes) (replicate digits 48), length-replicate {A = ℕ} digits 48))
 
 -- it has the bytes of the prefix
-filled_prefix : (digits : ℕ) (bytes : List ℕ) (count place : ℕ) → count ≤ length bytes → place < digits → place < count → slice_index (filled digits bytes count) place ≡ slice_index bytes place
+filled_prefix : (digits : ℕ) (bytes : List ℕ) (count place : ℕ) → count ≤ length bytes → place < digits → place < count
+    → slice_index (filled digits bytes count) place ≡ slice_index bytes place
 unfolding filled
 filled_prefix digits bytes count place inside early before =
     let counted : length (take count bytes) ≡ count = length-take-le count bytes inside in
@@ -102,7 +115,8 @@ filled_prefix digits bytes count place inside early before =
     ∙ get_or-take count bytes place 0 before
 
 -- and zeros after them
-filled_rest : (digits : ℕ) (bytes : List ℕ) (count place : ℕ) → count ≤ length bytes → place < digits → count ≤ place → slice_index (filled digits bytes count) place ≡ 48
+filled_rest : (digits : ℕ) (bytes : List ℕ) (count place : ℕ) → count ≤ length bytes → place < digits → count ≤ place
+    → slice_index (filled digits bytes count) place ≡ 48
 unfolding filled
 filled_rest digits bytes count place inside early after =
     let counted : length (take count bytes) ≡ count = length-take-le count bytes inside in
@@ -111,17 +125,21 @@ filled_rest digits bytes count place inside early after =
     ∙ get_or-replicate digits (place - count) 48 0 (omega arith)
 
 -- so all of it are digits
-filled_digits : (new_form : Bool) (bytes : List ℕ) (count : ℕ) → IsFittingPrefix new_form bytes count → (place : ℕ) → place < number_digits new_form → is_digit (slice_index (filled (number_digits new_form) bytes count) place) ≡ true
+filled_digits : (new_form : Bool) (bytes : List ℕ) (count : ℕ) → IsFittingPrefix new_form bytes count → (place : ℕ)
+    → place < number_digits new_form → is_digit (slice_index (filled (number_digits new_form) bytes count) place) ≡ true
 filled_digits new_form bytes count fitting place early = elim (cases_lt place count) [
-  | inl before ↦ ap is_digit (filled_prefix (number_digits new_form) bytes count place fitting.inside early before) ∙ sym (fits_digit new_form place (slice_index bytes place) early) ∙ fitting.each place before
+  | inl before ↦ ap is_digit (filled_prefix (number_digits new_form) bytes count place fitting.inside early before)
+      ∙ sym (fits_digit new_form place (slice_index bytes place) early) ∙ fitting.each place before
   | inr after ↦ ap is_digit (filled_rest (number_digits new_form) bytes count place fitting.inside early after)
 ]
 
 -- digits and a newline
-pub digits_and_newline : (new_form : Bool) (digits : List ℕ) (number : ℕ) → length digits ≡ number_digits new_form → SpellsNumber digits number → SpellsIn new_form (digits ++ 10 ∷ []) number
+pub digits_and_newline : (new_form : Bool) (digits : List ℕ) (number : ℕ) → length digits ≡ number_digits new_form
+    → SpellsNumber digits number → SpellsIn new_form (digits ++ 10 ∷ []) number
 digits_and_newline new_form digits number counted spelled =
     let prefix : take (number_digits new_form) (digits ++ 10 ∷ []) ≡ digits = take_at digits (10 ∷ []) (number_digits new_form) counted in
-    let last : slice_index (digits ++ 10 ∷ []) (number_digits new_form) ≡ 10 = subst (λ at. slice_index (digits ++ 10 ∷ []) at ≡ 10) counted (get_or-append_seam digits 10 [] 0) in
+    let last : slice_index (digits ++ 10 ∷ []) (number_digits new_form) ≡ 10 =
+    subst (λ at. slice_index (digits ++ 10 ∷ []) at ≡ 10) counted (get_or-append_seam digits 10 [] 0) in
     record {
       counted = simp length-append (omega arith);
       digits = subst (λ some. SpellsNumber some number) (sym prefix) spelled;
@@ -134,15 +152,20 @@ right_prefix new_form bytes count fitting =
     let digits : List ℕ = filled (number_digits new_form) bytes count in
     let counted : length digits ≡ number_digits new_form = filled_counted (number_digits new_form) bytes count in
     let right : List ℕ = digits ++ 10 ∷ [] in
-    let number : (number : ℕ) × SpellsNumber (take (number_digits new_form) digits) number = digits_spell digits (number_digits new_form) (omega arith) (filled_digits new_form bytes count fitting) in
-    let spelled : SpellsIn new_form right number.0 = digits_and_newline new_form digits number.0 counted (subst (λ some. SpellsNumber some number.0) (take_all (number_digits new_form) digits (omega arith)) number.1) in
+    let number : (number : ℕ) × SpellsNumber (take (number_digits new_form) digits) number =
+    digits_spell digits (number_digits new_form) (omega arith) (filled_digits new_form bytes count fitting) in
+    let spelled : SpellsIn new_form right number.0 = digits_and_newline new_form digits number.0 counted
+    (subst (λ some. SpellsNumber some number.0) (take_all (number_digits new_form) digits (omega arith)) number.1) in
     let few : count ≤ 1 + number_digits new_form = few_fit new_form bytes count fitting in
     let right_counted : length (take count right) ≡ count = length-take-le count right (omega (arith, spelled.counted)) in
-    let same : (place : ℕ) → place < count → slice_index right place ≡ slice_index bytes place = λ place before. elim (cases_lt place (number_digits new_form)) [
-      | inl early ↦ get_or-append digits (10 ∷ []) 0 place (omega arith) ∙ filled_prefix (number_digits new_form) bytes count place fitting.inside early before
+    let same : (place : ℕ) → place < count → slice_index right place ≡ slice_index bytes place =
+    λ place before. elim (cases_lt place (number_digits new_form)) [
+      | inl early ↦ get_or-append digits (10 ∷ []) 0 place (omega arith)
+          ∙ filled_prefix (number_digits new_form) bytes count place fitting.inside early before
       | inr late ↦
           let last : place ≡ number_digits new_form = omega arith in
-          let newline : slice_index bytes (number_digits new_form) ≡ 10 = fits_newline new_form (slice_index bytes (number_digits new_form)) (subst (λ at. fits_at new_form at (slice_index bytes at) ≡ true) last (fitting.each place before)) in
+          let newline : slice_index bytes (number_digits new_form) ≡ 10 = fits_newline new_form (slice_index bytes (number_digits new_form))
+          (subst (λ at. fits_at new_form at (slice_index bytes at) ≡ true) last (fitting.each place before)) in
           ap (slice_index right) last ∙ spelled.newline ∙ sym newline ∙ sym (ap (slice_index bytes) last)
     ] in
     record {
@@ -151,40 +174,56 @@ right_prefix new_form bytes count fitting =
       spelled = (new_form, spelled);
       inside = fitting.inside;
       prefix = ext_get_or 0 (take count right) (take count bytes) (right_counted ∙ sym (length-take-le count bytes fitting.inside))
-          (λ place inside. get_or-take count right place 0 (omega arith) ∙ same place (omega arith) ∙ sym (get_or-take count bytes place 0 (omega arith)));
+          (λ place inside. get_or-take count right place 0 (omega arith) ∙ same place (omega arith)
+          ∙ sym (get_or-take count bytes place 0 (omega arith)));
     }
 
 -- no longer prefix is that of a right file of this form
-longest_prefix : (new_form : Bool) (bytes right : List ℕ) (number count other : ℕ) → IsFittingPrefix new_form bytes count → SpellsIn new_form right number → other ≤ length bytes → take other right ≡ take other bytes → other ≤ count
+longest_prefix : (new_form : Bool) (bytes right : List ℕ) (number count other : ℕ) → IsFittingPrefix new_form bytes count
+    → SpellsIn new_form right number → other ≤ length bytes → take other right ≡ take other bytes → other ≤ count
 longest_prefix new_form bytes right number count other fitting spelled inside prefix = by_test (nat_le other count) refl where
   by_test : (few : Bool) → nat_le other count ≡ few → other ≤ count
   by_test true is = grind (arith, nat_tests)
   by_test false is =
       let more : count < other = grind (arith, nat_tests) in
-      let long : other ≤ 1 + number_digits new_form = omega (arith, inside, spelled.counted, ap length prefix, length-take other right, length-take other bytes) in
+      let long : other ≤ 1 + number_digits new_form =
+      omega (arith, inside, spelled.counted, ap length prefix, length-take other right, length-take other bytes) in
       let same : slice_index right count ≡ slice_index bytes count =
       sym (get_or-take other right count 0 more) ∙ ap (λ list. slice_index list count) prefix ∙ get_or-take other bytes count 0 more in
-      let impossible : true ≡ false = sym (spelled_fits new_form right number count spelled (omega arith)) ∙ ap (fits_at new_form count) same ∙ fitting.next (omega (arith, inside)) in
+      let impossible : true ≡ false = sym (spelled_fits new_form right number count spelled (omega arith))
+      ∙ ap (fits_at new_form count) same ∙ fitting.next (omega (arith, inside)) in
       cc
 
 -- where the bytes are no right file, they break its form after the longer of those that fit one of the forms
-pub fault_at : (bytes : List ℕ) (new_form_count old_form_count : ℕ) (byte : Option ℕ) → ((number : ℕ) → ¬ (SpellsSequence bytes number)) → IsFittingPrefix true bytes new_form_count → IsFittingPrefix false bytes old_form_count → slice_get bytes (max new_form_count old_form_count) ≡ byte → IsFaultAt bytes (max new_form_count old_form_count) byte
+pub fault_at : (bytes : List ℕ) (new_form_count old_form_count : ℕ) (byte : Option ℕ) → ((number : ℕ) → ¬ (SpellsSequence bytes number))
+    → IsFittingPrefix true bytes new_form_count → IsFittingPrefix false bytes old_form_count
+    → slice_get bytes (max new_form_count old_form_count) ≡ byte → IsFaultAt bytes (max new_form_count old_form_count) byte
 fault_at bytes new_form_count old_form_count byte wrong new_form_fitting old_form_fitting there = record {
   wrong = wrong;
   prefix = by_order (cases_lt new_form_count old_form_count);
   longest = λ other prefix. by_form other prefix prefix.spelled.0 prefix.spelled.1;
   there = there;
 } where
-  by_order : (new_form_count < old_form_count) ⊎ (old_form_count ≤ new_form_count) → HasSequencePrefix bytes (max new_form_count old_form_count)
+  by_order : (new_form_count < old_form_count) ⊎ (old_form_count ≤ new_form_count)
+      → HasSequencePrefix bytes (max new_form_count old_form_count)
   by_order (inl less) = subst (HasSequencePrefix bytes) (omega arith) (right_prefix false bytes old_form_count old_form_fitting)
   by_order (inr more) = subst (HasSequencePrefix bytes) (omega arith) (right_prefix true bytes new_form_count new_form_fitting)
 
-  by_form : (other : ℕ) (prefix : HasSequencePrefix bytes other) (new_form : Bool) → SpellsIn new_form prefix.right prefix.number → other ≤ max new_form_count old_form_count
-  by_form other prefix true spelled = omega (arith, longest_prefix true bytes prefix.right prefix.number new_form_count other new_form_fitting spelled prefix.inside prefix.prefix)
-  by_form other prefix false spelled = omega (arith, longest_prefix false bytes prefix.right prefix.number old_form_count other old_form_fitting spelled prefix.inside prefix.prefix)
+  by_form : (other : ℕ) (prefix : HasSequencePrefix bytes other) (new_form : Bool) → SpellsIn new_form prefix.right prefix.number
+      → other ≤ max new_form_count old_form_count
+  by_form other prefix true spelled = omega (
+    arith,
+    longest_prefix true bytes prefix.right prefix.number new_form_count other new_form_fitting spelled prefix.inside prefix.prefix,
+  )
+  by_form other prefix false spelled = omega (
+    arith,
+    longest_prefix false bytes prefix.right prefix.number old_form_count other old_form_fitting spelled prefix.inside prefix.prefix,
+  )
 
 -- bytes in which no number of either form is found are no right file
-pub of_no_form : (bytes : List ℕ) (new_form old_form : Option ℕ) → IfNone new_form ((number : ℕ) → ¬ (SpellsIn true bytes number)) → IfNone old_form ((number : ℕ) → ¬ (SpellsIn false bytes number)) → option_or new_form old_form ≡ None → (number : ℕ) → ¬ (SpellsSequence bytes number)
+pub of_no_form : (bytes : List ℕ) (new_form old_form : Option ℕ) → IfNone new_form ((number : ℕ) → ¬ (SpellsIn true bytes number))
+    → IfNone old_form ((number : ℕ) → ¬ (SpellsIn false bytes number)) → option_or new_form old_form ≡ None → (number : ℕ)
+    → ¬ (SpellsSequence bytes number)
 of_no_form bytes (Some found) old_form not_new_form not_old_form none = cc
 of_no_form bytes None (Some found) not_new_form not_old_form none = cc
 of_no_form bytes None None not_new_form not_old_form none = λ number spelled. by_form number spelled.0 spelled.1 where

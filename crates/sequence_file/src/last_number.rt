@@ -13,9 +13,13 @@ use crate::names::sequence_name;
 use crate::text::read_sequence;
 use host_calls::Host;
 use std::alloc::Global;
-use whole_file::content;
+use whole_file::first_bytes;
+
+// As many bytes decide what the file gives, and where it is damaged: those of a number, and one that no right file has.
+const DECISIVE_BYTES: usize = 10;
 
 /// The last number that was drawn: 0 where there is no sequence file.
+#[tactic(auto, using(crate::proofs::FirstBytes::number_of_start, crate::proofs::FirstBytes::damage_of_start))]
 pub fn last<H: Host>(alloc: Global, host: &mut H) -> Result<u32, SequenceFault>
     requires { IsInside (H.session host.old) }
     ensures inside { CallsInside SequenceFault.Failed (H.session host.old) (H.session host.new) result }
@@ -26,8 +30,11 @@ pub fn last<H: Host>(alloc: Global, host: &mut H) -> Result<u32, SequenceFault>
     ensures damaged { IsTrue H.tells
         → IfDamaged SequenceFault.Damaged (IsSequenceDamage (map.get (reading (H.world host.old)) sequence_file)) result }
 {
-    let Some(bytes) = content(alloc, host, &sequence_name())? else {
+    let Some(first) = first_bytes(alloc, host, &sequence_name(), DECISIVE_BYTES)? else {
         return Ok(0);
     };
-    read_sequence(bytes.as_slice()).map_err(SequenceFault::Damaged)
+    match read_sequence(first.as_slice()) {
+        Ok(number) => Ok(number),
+        Err(damage) => Err(SequenceFault::Damaged(damage)),
+    }
 }

@@ -52,7 +52,8 @@ one_order = λ i j kid earlier within. absurd (let low : j < 1 = within in omega
 -- The turns.
 
 -- one that was made to its end
-turned : (world : World) (at : TurnInput) (taken : ℕ) (children more : List Child) (kids left : List Kid) (steps : List TurnStep) → AreChildren (children ++ more) left → AreKidsByNumber left
+turned : (world : World) (at : TurnInput) (taken : ℕ) (children more : List Child) (kids left : List Kid) (steps : List TurnStep)
+    → AreChildren (children ++ more) left → AreKidsByNumber left
     → TurnsTo false false at (standing world children taken kids) (standing world (children ++ more) taken left) Done steps
 turned world at taken children more kids left steps are ordered = record {
   outside = refl;
@@ -85,10 +86,13 @@ held world at = record {
 }
 
 -- one after the other
-two_turns : (once : Bool) (one other : TurnItem) (start between rested end : ServeState) → Served known once [] one start between → ends_after once (Some one) between.spool.daemon.kids ≡ false
-    → RestsAfter true once (Some one) between rested → Served known once (one ∷ []) other rested end → Serves known once start (one ∷ other ∷ []) end
+two_turns : (once : Bool) (one other : TurnItem) (start between rested end : ServeState) → Served known once [] one start between
+    → ends_after once (Some one) between.spool.daemon.kids ≡ false
+    → RestsAfter true once (Some one) between rested → Served known once (one ∷ []) other rested end
+    → Serves known once start (one ∷ other ∷ []) end
 two_turns once one other start between rested end first goes_on rests second =
-    next_turn (one ∷ []) other between rested end (next_turn [] one start start between no_turn refl (record { clock = refl; spool = refl }) first) goes_on rests second
+    next_turn (one ∷ []) other between rested end
+    (next_turn [] one start start between no_turn refl (record { clock = refl; spool = refl }) first) goes_on rests second
 
 -- The readings.
 
@@ -102,12 +106,14 @@ a_minute_later : IsClockSecond minute_later
 a_minute_later = second_is minute_later refl
 
 -- the load was read
-answered : (now : ℤ) (load : ℕ) (end : TurnEnd) (steps : List TurnStep) (old new : ClockAt) → new.answers ≡ with_load (Some load) (with_now now old.answers) → new.readers ≡ old.readers
+answered : (now : ℤ) (load : ℕ) (end : TurnEnd) (steps : List TurnStep) (old new : ClockAt)
+    → new.answers ≡ with_load (Some load) (with_now now old.answers) → new.readers ≡ old.readers
     → AnswersTurn true (record { now = now; load = Some load; end = end; steps = steps }) old new
 answered now load end steps old new answers readers = record {
   known = λ tells. answers;
   made_as = ap (λ (of : Readers). of.made_as) readers;
-  later = let same : new.readers.load_faults ≡ old.readers.load_faults = ap (λ (of : Readers). of.load_faults) readers in omega (arith, same);
+  later = let same : new.readers.load_faults ≡ old.readers.load_faults = ap (λ (of : Readers). of.load_faults) readers in
+      omega (arith, same);
   unread = λ none. absurd (let impossible : ◌≡◌ {A = Option ℕ} (Some load) None = none in cc);
 }
 
@@ -125,9 +131,12 @@ done_silent one other first second = (
 
 -- What two turns come to.
 
-module _ (world : World) (once : Bool) (one other : TurnItem) (end : ServeState) (serves : Serves known once (served_with world [] 0 [] [] [] 0 0) (one ∷ other ∷ []) end) where
-  serves_twice : (printed between said : List ℕ) (of : Cause) → printed ≡ turn_lines (one ∷ other ∷ []) → SaysEnds (one ∷ other ∷ []) (sink []) (sink between)
-      → SaysServeOutcome true (serve_outcome at_the_end once (one ∷ other ∷ []) end.spool.daemon.kids false) (sink between) (sink said) of → ServesTwice world once end printed said of
+module _ (world : World) (once : Bool) (one other : TurnItem) (end : ServeState)
+    (serves : Serves known once (served_with world [] 0 [] [] [] 0 0) (one ∷ other ∷ []) end) where
+  serves_twice : (printed between said : List ℕ) (of : Cause) → printed ≡ turn_lines (one ∷ other ∷ [])
+      → SaysEnds (one ∷ other ∷ []) (sink []) (sink between)
+      → SaysServeOutcome true (serve_outcome at_the_end once (one ∷ other ∷ []) end.spool.daemon.kids false) (sink between) (sink said) of
+      → ServesTwice world once end printed said of
   serves_twice printed between said of lines says outcome = record {
     items = one ∷ other ∷ [];
     last = end;
@@ -136,7 +145,11 @@ module _ (world : World) (once : Bool) (one other : TurnItem) (end : ServeState)
     few = lit≤ tt;
     serves = serves;
     stops = (inl refl, refl);
-    prints = record { later = lit≤ tt; rose = λ output_failed. absurd (let impossible : false ≡ true = output_failed in cc); puts = λ tells. record { content = lines; later = lit≤ tt } };
+    prints = record {
+      later = lit≤ tt;
+      rose = λ output_failed. absurd (let impossible : false ≡ true = output_failed in cc);
+      puts = λ tells. record { content = lines; later = lit≤ tt };
+    };
     between = sink between;
     says = λ tells. says;
     outcome = outcome;
@@ -165,15 +178,20 @@ hands_over world once = record {
 abbrev ended_with : ℤ → Option ℕ → ℕ → TurnItem
 ended_with now load code = record { now = now; load = load; end = Done; steps = Ended 1 (Exit code) ∷ [] }
 
-rests : (once : Bool) (item : TurnItem) (seconds : ℕ) (old new : ServeState) → next_rest once item.end item.now ≡ seconds → new.clock.answers ≡ with_rest seconds old.clock.answers → new.clock.readers ≡ old.clock.readers
+rests : (once : Bool) (item : TurnItem) (seconds : ℕ) (old new : ServeState) → next_rest once item.end item.now ≡ seconds
+    → new.clock.answers ≡ with_rest seconds old.clock.answers → new.clock.readers ≡ old.clock.readers
     → new.spool ≡ old.spool → RestsAfter true once (Some item) old new
 rests once item seconds old new is answers readers spool = record {
-  clock = record { known = λ tells. subst (λ (count : ℕ). new.clock.answers ≡ with_rest count old.clock.answers) (sym is) answers; readers = readers };
+  clock = record {
+    known = λ tells. subst (λ (count : ℕ). new.clock.answers ≡ with_rest count old.clock.answers) (sym is) answers;
+    readers = readers;
+  };
   spool = spool;
 }
 
 minutes : (world : World) → ServesTwice world false
-    (served_with world (first_child ∷ []) 0 [] (midnight ∷ minute_later ∷ []) (Some 42 ∷ None ∷ []) 60 1) (codes "job 1 handed over\njob 1 exit 3\n") [] cause.Done
+    (served_with world (first_child ∷ []) 0 [] (midnight ∷ minute_later ∷ []) (Some 42 ∷ None ∷ []) 60 1)
+    (codes "job 1 handed over\njob 1 exit 3\n") [] cause.Done
 unfolding digits
 minutes world =
     let end : ServeState = served_with world (first_child ∷ []) 0 [] (midnight ∷ minute_later ∷ []) (Some 42 ∷ None ∷ []) 60 1 in
@@ -183,12 +201,15 @@ minutes world =
       turn = turned world _ 0 (first_child ∷ []) [] (first_kid ∷ []) [] _ (no_kids (first_child ∷ [])) no_order;
     } in
     serves_twice world false (handed_at midnight) (ended_with minute_later None 3) end
-    (two_turns false (handed_at midnight) (ended_with minute_later None 3) (opening world) (handed world 0) (handed world 60) end (hands_over world false) refl
+    (two_turns false (handed_at midnight) (ended_with minute_later None 3) (opening world) (handed world 0) (handed world 60) end
+    (hands_over world false) refl
     (rests false (handed_at midnight) 60 (handed world 0) (handed world 60) refl refl refl refl) second)
-    (codes "job 1 handed over\njob 1 exit 3\n") [] [] cause.Done refl (done_silent (handed_at midnight) (ended_with minute_later None 3) refl refl) (inl (refl, λ tells. refl))
+    (codes "job 1 handed over\njob 1 exit 3\n") [] [] cause.Done refl
+    (done_silent (handed_at midnight) (ended_with minute_later None 3) refl refl) (inl (refl, λ tells. refl))
 
 until_alone : (world : World) → ServesTwice world true
-    (served_with world (first_child ∷ []) 0 [] (midnight ∷ second_later ∷ []) (Some 42 ∷ Some 42 ∷ []) 1 0) (codes "job 1 handed over\njob 1 exit 0\n") [] cause.Done
+    (served_with world (first_child ∷ []) 0 [] (midnight ∷ second_later ∷ []) (Some 42 ∷ Some 42 ∷ []) 1 0)
+    (codes "job 1 handed over\njob 1 exit 0\n") [] cause.Done
 unfolding digits
 until_alone world =
     let end : ServeState = served_with world (first_child ∷ []) 0 [] (midnight ∷ second_later ∷ []) (Some 42 ∷ Some 42 ∷ []) 1 0 in
@@ -198,19 +219,23 @@ until_alone world =
       turn = turned world _ 0 (first_child ∷ []) [] (first_kid ∷ []) [] _ (no_kids (first_child ∷ [])) no_order;
     } in
     serves_twice world true (handed_at midnight) (ended_with second_later (Some 42) 0) end
-    (two_turns true (handed_at midnight) (ended_with second_later (Some 42) 0) (opening world) (handed world 0) (handed world 1) end (hands_over world true) refl
+    (two_turns true (handed_at midnight) (ended_with second_later (Some 42) 0) (opening world) (handed world 0) (handed world 1) end
+    (hands_over world true) refl
     (rests true (handed_at midnight) 1 (handed world 0) (handed world 1) refl refl refl refl) second)
-    (codes "job 1 handed over\njob 1 exit 0\n") [] [] cause.Done refl (done_silent (handed_at midnight) (ended_with second_later (Some 42) 0) refl refl) (inl (refl, λ tells. refl))
+    (codes "job 1 handed over\njob 1 exit 0\n") [] [] cause.Done refl
+    (done_silent (handed_at midnight) (ended_with second_later (Some 42) 0) refl refl) (inl (refl, λ tells. refl))
 
 -- a turn that did nothing
 abbrev idle : TurnItem
 idle = record { now = second_later; load = Some 42; end = Done; steps = [] }
 
 still_running : (world : World) → ServesTwice world true
-    (served_with world (first_child ∷ []) 0 (first_kid ∷ []) (midnight ∷ second_later ∷ []) (Some 42 ∷ Some 42 ∷ []) 1 0) (codes "job 1 handed over\n") (codes "atd: jobs still running\n") cause.StillRunning
+    (served_with world (first_child ∷ []) 0 (first_kid ∷ []) (midnight ∷ second_later ∷ []) (Some 42 ∷ Some 42 ∷ []) 1 0)
+    (codes "job 1 handed over\n") (codes "atd: jobs still running\n") cause.StillRunning
 unfolding digits
 still_running world =
-    let end : ServeState = served_with world (first_child ∷ []) 0 (first_kid ∷ []) (midnight ∷ second_later ∷ []) (Some 42 ∷ Some 42 ∷ []) 1 0 in
+    let end : ServeState =
+    served_with world (first_child ∷ []) 0 (first_kid ∷ []) (midnight ∷ second_later ∷ []) (Some 42 ∷ Some 42 ∷ []) 1 0 in
     let second : Served known true (handed_at midnight ∷ []) idle (handed world 1) end = record {
       now = a_second_later;
       read = answered second_later 42 Done _ (handed world 1).clock end.clock refl refl;
@@ -219,7 +244,8 @@ still_running world =
     serves_twice world true (handed_at midnight) idle end
     (two_turns true (handed_at midnight) idle (opening world) (handed world 0) (handed world 1) end (hands_over world true) refl
     (rests true (handed_at midnight) 1 (handed world 0) (handed world 1) refl refl refl refl) second)
-    (codes "job 1 handed over\n") [] (codes "atd: jobs still running\n") cause.StillRunning refl (done_silent (handed_at midnight) idle refl refl)
+    (codes "job 1 handed over\n") [] (codes "atd: jobs still running\n") cause.StillRunning refl
+    (done_silent (handed_at midnight) idle refl refl)
     (inl (refl, λ tells. inl (record { content = refl; later = lit≤ tt })))
 
 -- a turn that found the spool taken, and after it
@@ -230,12 +256,18 @@ abbrev refused : World → ℕ → ServeState
 refused world rested = served_with world [] 1 [] (midnight ∷ []) (Some 42 ∷ []) rested 0
 
 taken_first : (world : World) → ServesTwice world false
-    (served_with world (first_child ∷ []) 1 (first_kid ∷ []) (midnight ∷ second_later ∷ []) (Some 42 ∷ Some 42 ∷ []) 1 0) (codes "job 1 handed over\n") (codes "atd: spool busy\n") cause.Done
+    (served_with world (first_child ∷ []) 1 (first_kid ∷ []) (midnight ∷ second_later ∷ []) (Some 42 ∷ Some 42 ∷ []) 1 0)
+    (codes "job 1 handed over\n") (codes "atd: spool busy\n") cause.Done
 unfolding digits
 taken_first world =
-    let end : ServeState = served_with world (first_child ∷ []) 1 (first_kid ∷ []) (midnight ∷ second_later ∷ []) (Some 42 ∷ Some 42 ∷ []) 1 0 in
+    let end : ServeState =
+    served_with world (first_child ∷ []) 1 (first_kid ∷ []) (midnight ∷ second_later ∷ []) (Some 42 ∷ Some 42 ∷ []) 1 0 in
     let first : Served known false [] taken (opening world) (refused world 0) =
-    record { now = at_midnight; read = answered midnight 42 Busy _ (opening world).clock (refused world 0).clock refl refl; turn = held world _ } in
+    record {
+      now = at_midnight;
+      read = answered midnight 42 Busy _ (opening world).clock (refused world 0).clock refl refl;
+      turn = held world _;
+    } in
     let second : Served known false (taken ∷ []) (handed_at second_later) (refused world 1) end = record {
       now = a_second_later;
       read = answered second_later 42 Done _ (refused world 1).clock end.clock refl refl;
@@ -244,8 +276,11 @@ taken_first world =
     serves_twice world false taken (handed_at second_later) end
     (two_turns false taken (handed_at second_later) (opening world) (refused world 0) (refused world 1) end first refl
     (rests false taken 1 (refused world 0) (refused world 1) refl refl refl refl) second)
-    (codes "job 1 handed over\n") (codes "atd: spool busy\n") (codes "atd: spool busy\n") cause.Done refl
-    (sink (codes "atd: spool busy\n"), inl (record { content = refl; later = lit≤ tt }), (sink (codes "atd: spool busy\n"), unchecked (codes "atd: spool busy\n"), unchecked (codes "atd: spool busy\n")))
+    (codes "job 1 handed over\n") (codes "atd: spool busy\n") (codes "atd: spool busy\n") cause.Done refl (
+      sink (codes "atd: spool busy\n"),
+      inl (record { content = refl; later = lit≤ tt }),
+      (sink (codes "atd: spool busy\n"), unchecked (codes "atd: spool busy\n"), unchecked (codes "atd: spool busy\n")),
+    )
     (inl (refl, λ tells. refl))
 
 pub small_servings : SmallServings

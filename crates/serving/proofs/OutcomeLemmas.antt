@@ -43,62 +43,75 @@ module _ (old new : Session) (was is : SinkAt) (output_failed : Bool) (rose : ou
   kids_caused [] = output_caused
   kids_caused (kid ∷ kids) = tt
 
-  end_caused : (end : TurnEnd) (other : ServeOutcome) → RoseFirst (Some end) old new → IsCausedFor other old new was is → IsCausedFor (end_outcome end other) old new was is
+  end_caused : (end : TurnEnd) (other : ServeOutcome) → RoseFirst (Some end) old new → IsCausedFor other old new was is
+      → IsCausedFor (end_outcome end other) old new was is
   end_caused Done other risen caused = caused
   end_caused Busy other risen caused = risen
   end_caused FileFault other risen caused = risen
   end_caused (Damaged damage) other risen caused = tt
   end_caused Memory other risen caused = tt
 
-  turns_caused : (once : Bool) (first : Option TurnEnd) (kids : List Kid) → RoseFirst first old new → IsCausedFor (turns_outcome once first kids output_failed) old new was is
+  turns_caused : (once : Bool) (first : Option TurnEnd) (kids : List Kid) → RoseFirst first old new
+      → IsCausedFor (turns_outcome once first kids output_failed) old new was is
   turns_caused true None kids risen = kids_caused kids
   turns_caused true (Some end) kids risen = end_caused end (kids_outcome kids output_failed) risen (kids_caused kids)
   turns_caused false first kids risen = output_caused
 
-  damage_caused : (end : TurnEnd) (other : ServeOutcome) → IsCausedFor other old new was is → IsCausedFor (damage_outcome end other) old new was is
+  damage_caused : (end : TurnEnd) (other : ServeOutcome) → IsCausedFor other old new was is
+      → IsCausedFor (damage_outcome end other) old new was is
   damage_caused Done other caused = caused
   damage_caused Busy other caused = caused
   damage_caused FileFault other caused = caused
   damage_caused (Damaged damage) other caused = tt
   damage_caused Memory other caused = caused
 
-  last_caused : (last : Option TurnItem) (other : ServeOutcome) → IsCausedFor other old new was is → IsCausedFor (last_turn_outcome last other) old new was is
+  last_caused : (last : Option TurnItem) (other : ServeOutcome) → IsCausedFor other old new was is
+      → IsCausedFor (last_turn_outcome last other) old new was is
   last_caused None other caused = caused
   last_caused (Some item) other caused = damage_caused item.end other caused
 
   outcome_caused : (stop : Stop) (once : Bool) (items : List TurnItem) (kids : List Kid) → RoseFirst (first_end items) old new
       → IsCausedFor (serve_outcome stop once items kids output_failed) old new was is
   outcome_caused at_the_end once items kids risen =
-      last_caused (last_item items) (turns_outcome once (first_end items) kids output_failed) (turns_caused once (first_end items) kids risen)
+      last_caused (last_item items) (turns_outcome once (first_end items) kids output_failed)
+      (turns_caused once (first_end items) kids risen)
   outcome_caused at_the_clock once items kids risen = tt
   outcome_caused at_a_line once items kids risen = tt
 
 -- what is said at the end is caused as what serving comes to
 said_caused : (tells : Bool) (outcome : ServeOutcome) (final : Cause) (before after : SinkAt) (old new : Session) (was is : SinkAt)
     → SaysServeOutcome tells outcome before after final → IsCausedFor outcome old new was is → IsCaused final old new was is
-said_caused tells (OfTurn of) final before after old new was is says caused = subst (λ (other : Cause). IsCaused other old new was is) (sym says.0) caused
-said_caused tells (Own of) final before after old new was is (inl says) caused = subst (λ (other : Cause). IsCaused other old new was is) (sym says.0) caused
-said_caused tells (Own of) final before after old new was is (inr says) caused = subst (λ (other : Cause). IsCaused other old new was is) (sym says.1) tt
+said_caused tells (OfTurn of) final before after old new was is says caused =
+    subst (λ (other : Cause). IsCaused other old new was is) (sym says.0) caused
+said_caused tells (Own of) final before after old new was is (inl says) caused =
+    subst (λ (other : Cause). IsCaused other old new was is) (sym says.0) caused
+said_caused tells (Own of) final before after old new was is (inr says) caused =
+    subst (λ (other : Cause). IsCaused other old new was is) (sym says.1) tt
 
 -- the spool is that after the last turn
-pub stops_spool : (stop : Stop) (tells once : Bool) (turns : ℕ) (items : List TurnItem) (last now : ServeState) → StopsBy stop tells once turns items last now → now.spool ≡ last.spool
+pub stops_spool : (stop : Stop) (tells once : Bool) (turns : ℕ) (items : List TurnItem) (last now : ServeState)
+    → StopsBy stop tells once turns items last now → now.spool ≡ last.spool
 stops_spool at_the_end tells once turns items last now stops = ap (λ (at : ServeState). at.spool) stops.1
 stops_spool at_the_clock tells once turns items last now stops =
     stops.2.spool ∙ stops.2.rests.spool
 stops_spool at_a_line tells once turns items last now stops = ap (λ (at : ServeState). at.spool) stops
 
-pub ended_caused : (tells : Telling) (once : Bool) (turns : ℕ) (first now : ServeState) (out_first out_now err_first err_now err_end : SinkAt) (outcome : ServeOutcome) (final : Cause)
-    → HasEnded tells once turns first now out_first out_now err_first err_now outcome → SaysServeOutcome tells.errors outcome err_now err_end final
+pub ended_caused : (tells : Telling) (once : Bool) (turns : ℕ) (first now : ServeState)
+    (out_first out_now err_first err_now err_end : SinkAt) (outcome : ServeOutcome) (final : Cause)
+    → HasEnded tells once turns first now out_first out_now err_first err_now outcome
+    → SaysServeOutcome tells.errors outcome err_now err_end final
     → IsCaused final first.spool.session now.spool.session out_first out_now
 ended_caused tells once turns first now out_first out_now err_first err_now err_end outcome final ended says =
     subst (λ (spool : DaemonAt). IsCaused final first.spool.session spool.session out_first out_now)
     (sym (stops_spool ended.stop tells.clock once turns ended.items ended.last now ended.stops))
     (said_caused tells.errors outcome final err_now err_end first.spool.session ended.last.spool.session out_first out_now says
     (subst (λ (other : ServeOutcome). IsCausedFor other first.spool.session ended.last.spool.session out_first out_now) (sym ended.comes)
-    (outcome_caused first.spool.session ended.last.spool.session out_first out_now ended.output_failed ended.prints.rose ended.stop once ended.items ended.last.spool.daemon.kids
+    (outcome_caused first.spool.session ended.last.spool.session out_first out_now ended.output_failed ended.prints.rose ended.stop once
+    ended.items ended.last.spool.daemon.kids
     (rose_first tells once first ended.items ended.last ended.serves))))
 
-caused_for : (final cause : Cause) (old new : Session) (was is : SinkAt) → IsCaused final old new was is → final ≡ cause → IsCaused cause old new was is
+caused_for : (final cause : Cause) (old new : Session) (was is : SinkAt) → IsCaused final old new was is → final ≡ cause
+    → IsCaused cause old new was is
 caused_for final cause old new was is caused same = subst (λ (other : Cause). IsCaused other old new was is) same caused
 
 -- the faults that it can be, one by one
@@ -113,7 +126,8 @@ risen_by final old new was is caused = (
 )
 
 -- where a further turn is to come, the last one found no damage
-pub no_damage : (once : Bool) (last : Option TurnItem) (kids : List Kid) (other : ServeOutcome) → ends_after once last kids ≡ false → last_turn_outcome last other ≡ other
+pub no_damage : (once : Bool) (last : Option TurnItem) (kids : List Kid) (other : ServeOutcome) → ends_after once last kids ≡ false
+    → last_turn_outcome last other ≡ other
 no_damage once None kids other further = refl
 no_damage once (Some item) kids other further = by_end item.end further where
   by_end : (end : TurnEnd) → is_last_turn once end kids ≡ false → damage_outcome end other ≡ other

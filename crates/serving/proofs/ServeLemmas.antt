@@ -46,7 +46,8 @@ one_longer (one ∷ items) item = (let longer : length (items ++ item ∷ []) �
 
 -- The mode and the rest.
 
-pub mode_same : (once : Bool) (items : List TurnItem) (first : Option TurnEnd) → first ≡ first_end items → mode_by once first ≡ mode_after once items
+pub mode_same : (once : Bool) (items : List TurnItem) (first : Option TurnEnd) → first ≡ first_end items
+    → mode_by once first ≡ mode_after once items
 mode_same once items first same = ap (λ (end : Option TurnEnd). mode_by once end) same ∙ by_items once items where
   by_items : (flag : Bool) (of : List TurnItem) → mode_by flag (first_end of) ≡ mode_after flag of
   by_items false of = refl
@@ -54,12 +55,14 @@ mode_same once items first same = ap (λ (end : Option TurnEnd). mode_by once en
   by_items true (item ∷ of) = refl
 
 -- the rest that is kept is that after the last turn
-rest_same : (once : Bool) (seconds : ℕ) (items : List TurnItem) → IsRest once (last_item items) seconds → rest_if (first_end items) seconds ≡ rest_of once (last_item items)
+rest_same : (once : Bool) (seconds : ℕ) (items : List TurnItem) → IsRest once (last_item items) seconds
+    → rest_if (first_end items) seconds ≡ rest_of once (last_item items)
 rest_same once seconds [] rest = refl
 rest_same once seconds (item ∷ []) rest = ap Some rest
 rest_same once seconds (item ∷ other ∷ items) rest = rest_same once seconds (other ∷ items) rest
 
-module _ (tells once : Bool) (session : Session) (world : World) (daemon : DaemonState) (was is : Answers) (had has : Readers) (seconds : ℕ) where
+module _ (tells once : Bool) (session : Session) (world : World) (daemon : DaemonState) (was is : Answers)
+    (had has : Readers) (seconds : ℕ) where
   pub rests_after : (items : List TurnItem) (first : Option TurnEnd) → first ≡ first_end items → IsRest once (last_item items) seconds
       → RestsOn tells (rest_if first seconds) (record { answers = was; readers = had }) (record { answers = is; readers = has })
       → RestsAfter tells once (last_item items) (serve_at session world daemon was had) (serve_at session world daemon is has)
@@ -79,7 +82,8 @@ children_then old middle new first second =
     (first.0 ++ second.0, second.1 ∙ ap (λ (before : List Child). before ++ second.0) first.1 ∙ append_assoc old first.0 second.0)
 
 module _ (tells : Telling) (once : Bool) (first : ServeState) where
-  pub serves_counts : (items : List TurnItem) (last : ServeState) → Serves tells once first items last → KeepsCounts first.spool.session last.spool.session
+  pub serves_counts : (items : List TurnItem) (last : ServeState) → Serves tells once first items last
+      → KeepsCounts first.spool.session last.spool.session
   serves_counts _ _ no_turn = no_counts first.spool.session
   serves_counts _ _ (next_turn before item last rested after serves goes_on rests served) =
       counts_on first.spool.session last.spool.session after.spool.session (serves_counts before last serves)
@@ -96,41 +100,51 @@ RoseFirst (Some FileFault) old new = Rose old.file_faults new.file_faults
 RoseFirst (Some (Damaged damage)) old new = Unit {0}
 RoseFirst (Some Memory) old new = Unit {0}
 
-rose_wider : (end : Option TurnEnd) (first old middle new : Session) → KeepsCounts first old → KeepsCounts middle new → RoseFirst end old middle → RoseFirst end first new
+rose_wider : (end : Option TurnEnd) (first old middle new : Session) → KeepsCounts first old → KeepsCounts middle new
+    → RoseFirst end old middle → RoseFirst end first new
 rose_wider None first old middle new before beyond rose = tt
 rose_wider (Some Done) first old middle new before beyond rose = tt
 rose_wider (Some Busy) first old middle new before beyond rose =
-    (let earlier : first.taken ≤ old.taken = before.taken in let later : middle.taken ≤ new.taken = beyond.taken in let risen : Rose old.taken middle.taken = rose in omega arith)
+    (let earlier : first.taken ≤ old.taken = before.taken in let later : middle.taken ≤ new.taken = beyond.taken in
+    let risen : Rose old.taken middle.taken = rose in omega arith)
 rose_wider (Some FileFault) first old middle new before beyond rose =
-    (let earlier : first.file_faults ≤ old.file_faults = before.file_faults in let later : middle.file_faults ≤ new.file_faults = beyond.file_faults in
+    (let earlier : first.file_faults ≤ old.file_faults = before.file_faults in
+    let later : middle.file_faults ≤ new.file_faults = beyond.file_faults in
     let risen : Rose old.file_faults middle.file_faults = rose in omega arith)
 rose_wider (Some (Damaged damage)) first old middle new before beyond rose = tt
 rose_wider (Some Memory) first old middle new before beyond rose = tt
 
 module _ (tells : Telling) (once : Bool) (first : ServeState) where
-  rose_served : (before : List TurnItem) (item : TurnItem) (old new : ServeState) → Served tells once before item old new → RoseFirst (Some item.end) old.spool.session new.spool.session
+  rose_served : (before : List TurnItem) (item : TurnItem) (old new : ServeState) → Served tells once before item old new
+      → RoseFirst (Some item.end) old.spool.session new.spool.session
   rose_served before item old new served = by_end item.end served.turn.busy served.turn.fault where
     by_end : (end : TurnEnd) → (end ≡ Busy → Rose old.spool.session.taken new.spool.session.taken)
-        → (end ≡ FileFault → Rose old.spool.session.file_faults new.spool.session.file_faults) → RoseFirst (Some end) old.spool.session new.spool.session
+        → (end ≡ FileFault → Rose old.spool.session.file_faults new.spool.session.file_faults)
+        → RoseFirst (Some end) old.spool.session new.spool.session
     by_end Done busy fault = tt
     by_end Busy busy fault = busy refl
     by_end FileFault busy fault = fault refl
     by_end (Damaged damage) busy fault = tt
     by_end Memory busy fault = tt
 
-  rose_more : (before : List TurnItem) (item : TurnItem) (last rested after : ServeState) → RoseFirst (first_end before) first.spool.session last.spool.session
-      → KeepsCounts first.spool.session last.spool.session → RestsAfter tells.clock once (last_item before) last rested → Served tells once before item rested after
+  rose_more : (before : List TurnItem) (item : TurnItem) (last rested after : ServeState)
+      → RoseFirst (first_end before) first.spool.session last.spool.session
+      → KeepsCounts first.spool.session last.spool.session → RestsAfter tells.clock once (last_item before) last rested
+      → Served tells once before item rested after
       → RoseFirst (first_end (before ++ item ∷ [])) first.spool.session after.spool.session
   rose_more [] item last rested after rose counts rests served =
       rose_wider (Some item.end) first.spool.session rested.spool.session after.spool.session after.spool.session
       (subst (λ (spool : DaemonAt). KeepsCounts first.spool.session spool.session) (sym rests.spool) counts)
       (no_counts after.spool.session) (rose_served [] item rested after served)
   rose_more (head ∷ before) item last rested after rose counts rests served =
-      rose_wider (Some head.end) first.spool.session first.spool.session last.spool.session after.spool.session (no_counts first.spool.session)
+      rose_wider (Some head.end) first.spool.session first.spool.session last.spool.session after.spool.session
+      (no_counts first.spool.session)
       (subst (λ (spool : DaemonAt). KeepsCounts spool.session after.spool.session) rests.spool served.turn.counts)
       rose
 
-  pub rose_first : (items : List TurnItem) (last : ServeState) → Serves tells once first items last → RoseFirst (first_end items) first.spool.session last.spool.session
+  pub rose_first : (items : List TurnItem) (last : ServeState) → Serves tells once first items last
+      → RoseFirst (first_end items) first.spool.session last.spool.session
   rose_first _ _ no_turn = tt
   rose_first _ _ (next_turn before item last rested after serves goes_on rests served) =
-      rose_more before item last rested after (rose_first before last serves) (serves_counts tells once first before last serves) rests served
+      rose_more before item last rested after (rose_first before last serves)
+      (serves_counts tells once first before last serves) rests served

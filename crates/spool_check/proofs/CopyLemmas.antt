@@ -22,11 +22,15 @@ use Rattle.whole_file.proofs.OthersLemmas.{neither, one_or_other}
 -- Files that are left alone.
 
 -- the images of a call's end leave the other files alone
-pub alone_end : (may_change : List ℕ → Type 0) (old new : World) → ChangesFiles (LeavesOthers may_change old.now.directory) old new → (image : Files) → IsImage new.now.directory image → LeavesOthers may_change old.now.directory image
-alone_end may_change old new changes = changes_end (LeavesOthers may_change old.now.directory) old new changes (λ image is. left_alone may_change old.now.directory image is)
+pub alone_end : (may_change : List ℕ → Type 0) (old new : World) → ChangesFiles (LeavesOthers may_change old.now.directory) old new
+    → (image : Files) → IsImage new.now.directory image → LeavesOthers may_change old.now.directory image
+alone_end may_change old new changes =
+    changes_end (LeavesOthers may_change old.now.directory) old new changes (λ image is. left_alone may_change old.now.directory image is)
 
 -- what a later call leaves alone of what an earlier one left
-pub alone_on : (first second : List ℕ → Type 0) (start middle : Directory) (image : Files) → ((name : List ℕ) → second name → first name) → ((image : Files) → IsImage middle image → LeavesOthers first start image) → LeavesOthers second middle image → LeavesOthers first start image
+pub alone_on : (first second : List ℕ → Type 0) (start middle : Directory) (image : Files) → ((name : List ℕ) → second name → first name)
+    → ((image : Files) → IsImage middle image → LeavesOthers first start image) → LeavesOthers second middle image
+    → LeavesOthers first start image
 alone_on first second start middle image narrower before left =
     let earlier : LeavesOthers first start left.from = before left.from left.was in
     record {
@@ -36,7 +40,9 @@ alone_on first second start middle image narrower before left =
     }
 
 -- a name that is left alone has in each image what it had in each
-pub kept_each : (may_change : List ℕ → Type 0) (old new : World) (name : List ℕ) (held : Option (List ℕ)) → ¬ (may_change name) → ChangesFiles (LeavesOthers may_change old.now.directory) old new → EachHasFile name held old.now.directory → EachHasFile name held new.now.directory
+pub kept_each : (may_change : List ℕ → Type 0) (old new : World) (name : List ℕ) (held : Option (List ℕ)) → ¬ (may_change name)
+    → ChangesFiles (LeavesOthers may_change old.now.directory) old new → EachHasFile name held old.now.directory
+    → EachHasFile name held new.now.directory
 kept_each may_change old new name held other changes each = λ image is.
     let left : LeavesOthers may_change old.now.directory image = alone_end may_change old new changes image is in
     left.others name other ∙ each left.from left.was
@@ -49,15 +55,21 @@ one_copied name other copied = elim copied.1 [
   | inr is ↦ inr (subst (λ (n : List ℕ). IsSome (job_named n)) (sym is) copied.0)
 ]
 
-pub copying_one : (start middle new : World) (name : List ℕ) → ChangesFiles (LeavesOthers IsCopyName start.now.directory) start middle → ChangesFiles (LeavesOthers (IsCopied name) middle.now.directory) middle new → ChangesFiles (LeavesOthers IsCopyName start.now.directory) start new
+pub copying_one : (start middle new : World) (name : List ℕ) → ChangesFiles (LeavesOthers IsCopyName start.now.directory) start middle
+    → ChangesFiles (LeavesOthers (IsCopied name) middle.now.directory) middle new
+    → ChangesFiles (LeavesOthers IsCopyName start.now.directory) start new
 copying_one start middle new name before after =
-    changes_on (LeavesOthers IsCopyName start.now.directory) (LeavesOthers (IsCopied name) middle.now.directory) (LeavesOthers IsCopyName start.now.directory) start middle new
+    changes_on (LeavesOthers IsCopyName start.now.directory) (LeavesOthers (IsCopied name) middle.now.directory)
+    (LeavesOthers IsCopyName start.now.directory) start middle new
     (λ image is. is)
-    (λ image is. alone_on IsCopyName (IsCopied name) start.now.directory middle.now.directory image (one_copied name) (alone_end IsCopyName start middle before) is)
+    (λ image is. alone_on IsCopyName (IsCopied name) start.now.directory middle.now.directory image (one_copied name)
+    (alone_end IsCopyName start middle before) is)
     before after
 
 -- a job's file that is copied
-pub copied_one : (old new : World) (name : List ℕ) → IsSome (job_named name) → ChangesFiles (LeavesOthers (IsEither temporary_file name) old.now.directory) old new → ChangesFiles (LeavesOthers (IsCopied name) old.now.directory) old new
+pub copied_one : (old new : World) (name : List ℕ) → IsSome (job_named name)
+    → ChangesFiles (LeavesOthers (IsEither temporary_file name) old.now.directory) old new
+    → ChangesFiles (LeavesOthers (IsCopied name) old.now.directory) old new
 copied_one old new name job changes = changes_weaker _ _ old new (λ image left. record {
   from = left.from;
   was = left.was;
@@ -65,7 +77,8 @@ copied_one old new name job changes = changes_weaker _ _ old new (λ image left.
 }) changes
 
 -- whether a name is among names with one more
-any_more : (name one : List ℕ) (names : List (List ℕ)) → list_any (λ other. bytes_eq other name) (names ++ one ∷ []) ≡ (list_any (λ other. bytes_eq other name) names || (bytes_eq one name || false))
+any_more : (name one : List ℕ) (names : List (List ℕ)) → list_any (λ other. bytes_eq other name) (names ++ one ∷ [])
+    ≡ (list_any (λ other. bytes_eq other name) names || (bytes_eq one name || false))
 any_more name one names = list_any-append (λ other. bytes_eq other name) names (one ∷ [])
 
 or_true : (a b : Bool) → b ≡ true → (a || (b || false)) ≡ true
@@ -78,39 +91,60 @@ or_false false b is = ap (λ c. c || false) is
 
 pub copied_same : (name : List ℕ) (names : List (List ℕ)) (files : Files) → copied (names ++ name ∷ []) files name ≡ map.get files name
 copied_same name names files =
-    ap (λ b. if b then map.get files name else None) (any_more name name names ∙ or_true (list_any (λ other. bytes_eq other name) names) (bytes_eq name name) ((bytes_eq-Decides name name).1 refl))
+    ap (λ b. if b then map.get files name else None) (any_more name name names
+    ∙ or_true (list_any (λ other. bytes_eq other name) names) (bytes_eq name name) ((bytes_eq-Decides name name).1 refl))
 
-pub copied_other : (name one : List ℕ) (names : List (List ℕ)) (files : Files) → ¬ (one ≡ name) → copied (names ++ one ∷ []) files name ≡ copied names files name
+pub copied_other : (name one : List ℕ) (names : List (List ℕ)) (files : Files) → ¬ (one ≡ name)
+    → copied (names ++ one ∷ []) files name ≡ copied names files name
 copied_other name one names files differ =
-    ap (λ b. if b then map.get files name else None) (any_more name one names ∙ or_false (list_any (λ other. bytes_eq other name) names) (bytes_eq one name) (false_from_ne_true _ (λ same. differ ((bytes_eq-Decides one name).0 same))))
+    ap (λ b. if b then map.get files name else None) (any_more name one names ∙ or_false (list_any (λ other. bytes_eq other name) names)
+    (bytes_eq one name) (false_from_ne_true _ (λ same. differ ((bytes_eq-Decides one name).0 same))))
 
 -- one copy more
-pub one_copy : (files : Files) (names : List (List ℕ)) (name : List ℕ) (old new : World) → EachHasCopies files names old.now.directory → ChangesFiles (LeavesOthers (IsCopied name) old.now.directory) old new → EachHasFile name (map.get files name) new.now.directory → EachHasCopies files (names ++ name ∷ []) new.now.directory
-one_copy files names name old new before changes holds = λ image is other job named. by_name image is other job named (one_or_other other name) where
-  by_name : (image : Files) → IsImage new.now.directory image → (other : List ℕ) (job : NamedJob) → job_named other ≡ Some job → (other ≡ name) ⊎ (¬ (other ≡ name)) → map.get image other ≡ copied (names ++ name ∷ []) files other
-  by_name image is other job named (inl same) =
-      subst (λ (n : List ℕ). map.get image n ≡ copied (names ++ name ∷ []) files n) (sym same) (holds image is ∙ sym (copied_same name names files))
-  by_name image is other job named (inr differ) =
-      let left : LeavesOthers (IsCopied name) old.now.directory image = alone_end (IsCopied name) old new changes image is in
-      left.others other (λ copied. neither temporary_file name other (job_name_differs other temporary_file job named temporary_no_job) differ copied.1)
-      ∙ before left.from left.was other job named
-      ∙ sym (copied_other other name names files (λ same. differ (sym same)))
+pub one_copy : (files : Files) (names : List (List ℕ)) (name : List ℕ) (old new : World) → EachHasCopies files names old.now.directory
+    → ChangesFiles (LeavesOthers (IsCopied name) old.now.directory) old new → EachHasFile name (map.get files name) new.now.directory
+    → EachHasCopies files (names ++ name ∷ []) new.now.directory
+one_copy files names name old new before changes holds =
+    λ image is other job named. by_name image is other job named (one_or_other other name)
+  where
+    by_name : (image : Files) → IsImage new.now.directory image → (other : List ℕ) (job : NamedJob) → job_named other ≡ Some job
+        → (other ≡ name) ⊎ (¬ (other ≡ name)) → map.get image other ≡ copied (names ++ name ∷ []) files other
+    by_name image is other job named (inl same) =
+        subst (λ (n : List ℕ). map.get image n ≡ copied (names ++ name ∷ []) files n) (sym same) (holds image is
+        ∙ sym (copied_same name names files))
+    by_name image is other job named (inr differ) =
+        let left : LeavesOthers (IsCopied name) old.now.directory image = alone_end (IsCopied name) old new changes image is in
+        left.others other
+        (λ copied. neither temporary_file name other (job_name_differs other temporary_file job named temporary_no_job) differ copied.1)
+        ∙ before left.from left.was other job named
+        ∙ sym (copied_other other name names files (λ same. differ (sym same)))
 
 -- The copies so far.
 
-pub more_copies : (files : Files) (names : List (List ℕ)) (place : ℕ) (name : List ℕ) (directory : Directory) → place < length names → name ≡ get_or names place name → EachHasCopies files (take place names ++ name ∷ []) directory → EachHasCopies files (take (place + 1) names) directory
+pub more_copies : (files : Files) (names : List (List ℕ)) (place : ℕ) (name : List ℕ) (directory : Directory)
+    → place < length names → name ≡ get_or names place name → EachHasCopies files (take place names ++ name ∷ []) directory
+    → EachHasCopies files (take (place + 1) names) directory
 more_copies files names place name directory inside at has =
-    subst (λ (list : List (List ℕ)). EachHasCopies files list directory) (ap (λ (n : List ℕ). take place names ++ n ∷ []) at ∙ sym (take_more names place name inside)) has
+    subst (λ (list : List (List ℕ)). EachHasCopies files list directory) (ap (λ (n : List ℕ). take place names ++ n ∷ []) at
+    ∙ sym (take_more names place name inside)) has
 
-pub all_copies : (files : Files) (names : List (List ℕ)) (place : ℕ) (directory : Directory) → length names ≤ place → EachHasCopies files (take place names) directory → EachHasCopies files names directory
-all_copies files names place directory past has = subst (λ (list : List (List ℕ)). EachHasCopies files list directory) (take_all place names past) has
+pub all_copies : (files : Files) (names : List (List ℕ)) (place : ℕ) (directory : Directory) → length names ≤ place
+    → EachHasCopies files (take place names) directory → EachHasCopies files names directory
+all_copies files names place directory past has =
+    subst (λ (list : List (List ℕ)). EachHasCopies files list directory) (take_all place names past) has
 
 -- the name at a place is that of a job
-pub named_at : (names : List (List ℕ)) (place : ℕ) (name : List ℕ) → place < length names → name ≡ get_or names place name → AreJobNames names → IsSome (job_named name)
-named_at names place name inside at are = subst (λ (n : List ℕ). IsSome (job_named n)) (sym at) (All-get_or (λ (n : List ℕ). IsSome (job_named n)) names place name inside are)
+pub named_at : (names : List (List ℕ)) (place : ℕ) (name : List ℕ) → place < length names → name ≡ get_or names place name
+    → AreJobNames names → IsSome (job_named name)
+named_at names place name inside at are =
+    subst (λ (n : List ℕ). IsSome (job_named n)) (sym at) (All-get_or (λ (n : List ℕ). IsSome (job_named n)) names place name inside are)
 
 -- the copy of the file of that name
-pub copied_at : (files here : Files) (names : List (List ℕ)) (place : ℕ) (name : List ℕ) (old new : World) → here ≡ files → place < length names → name ≡ get_or names place name → EachHasCopies files (take place names) old.now.directory → ChangesFiles (LeavesOthers (IsCopied name) old.now.directory) old new → EachHasFile name (map.get here name) new.now.directory → EachHasCopies files (take (place + 1) names) new.now.directory
+pub copied_at : (files here : Files) (names : List (List ℕ)) (place : ℕ) (name : List ℕ) (old new : World) → here ≡ files
+    → place < length names → name ≡ get_or names place name → EachHasCopies files (take place names) old.now.directory
+    → ChangesFiles (LeavesOthers (IsCopied name) old.now.directory) old new → EachHasFile name (map.get here name) new.now.directory
+    → EachHasCopies files (take (place + 1) names) new.now.directory
 copied_at files here names place name old new same inside at before changes holds =
     more_copies files names place name new.now.directory inside at
-    (one_copy files (take place names) name old new before changes (subst (λ (fs : Files). EachHasFile name (map.get fs name) new.now.directory) same holds))
+    (one_copy files (take place names) name old new before changes
+    (subst (λ (fs : Files). EachHasFile name (map.get fs name) new.now.directory) same holds))

@@ -15,13 +15,13 @@
 mod copying;
 mod fault;
 mod filling;
-mod look;
+mod lines;
 mod program;
 mod salvaging;
 mod save;
+mod session;
 mod source;
 mod target;
-mod tell;
 mod words;
 
 pub use fault::SalvageFault;

@@ -9,9 +9,9 @@ ghost use Rattle.spool_check.specs.inside.CheckParts.{ReportsFaults, cause_by};
 ghost use Rattle.spool_check.specs.Outside.{HasRisenInEither, handed, directories_at};
 ghost use Rattle.spool_check.specs.Words.{check_asked};
 
-use crate::look::look;
+use crate::lines::report_faults;
 use crate::save::check_and_save;
-use crate::tell::report_faults;
+use crate::session::look;
 use crate::words::asks_to_salvage;
 use host_calls::{Damage, Host, Sink};
 use listing_text::{Cause, Status};

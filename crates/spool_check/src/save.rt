@@ -9,7 +9,7 @@ ghost use Rattle.spool_check.specs.inside.CheckParts.{IsSalvageCause, RisesOfBot
 ghost use Rattle.spool_check.specs.Outside.{HasRisenInEither, directories_at};
 ghost use Rattle.spool_faults.specs.Plan.{IsPlanOf};
 
-use crate::tell::report_faults;
+use crate::lines::report_faults;
 use crate::{SalvageFault, fill_target};
 use host_calls::{Host, Sink};
 use listing_text::{Cause, Refusal};

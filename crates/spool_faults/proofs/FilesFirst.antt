@@ -28,7 +28,8 @@ head_cons None later = refl
 head_cons (Some fault) later = refl
 
 -- the first fault of files
-pub files_first : (last : ℕ) (before : List ℕ) (files : List JobFile) → files_damage last before files ≡ head_of (files_faults last before files)
+pub files_first : (last : ℕ) (before : List ℕ) (files : List JobFile)
+    → files_damage last before files ≡ head_of (files_faults last before files)
 files_first last before [] = refl
 files_first last before (file ∷ later) =
     ap (option_or (damage_of file (file_place last before file))) (files_first last (file.job.number ∷ before) later)
@@ -40,42 +41,51 @@ none_first None later none = (refl, none)
 none_first (Some x) later none = let impossible : x ∷ later ≡ [] = none in cc
 
 -- files without a fault are all taken
-pub files_kept : (last : ℕ) (before : List ℕ) (files : List JobFile) → files_faults last before files ≡ [] → first_files before (filter has_header files) ≡ files
+pub files_kept : (last : ℕ) (before : List ℕ) (files : List JobFile) → files_faults last before files ≡ []
+    → first_files before (filter has_header files) ≡ files
 files_kept last before [] none = refl
 files_kept last before (file ∷ later) none =
-    let both : (damage_of file (file_place last before file) ≡ None) × (files_faults last (file.job.number ∷ before) later ≡ []) = none_first _ _ none in
+    let both : (damage_of file (file_place last before file) ≡ None)
+    × (files_faults last (file.job.number ∷ before) later ≡ []) = none_first _ _ none in
     let fine = no_fault last before file (no_place file _ both.0) in
     ap (λ b. first_files before (if b then file ∷ filter has_header later else filter has_header later)) fine.0.header
-    ∙ ap (λ b. if b then first_files before (filter has_header later) else file ∷ first_files (file.job.number ∷ before) (filter has_header later)) fine.1
+    ∙ ap (λ b. if b then first_files before (filter has_header later) else file
+    ∷ first_files (file.job.number ∷ before) (filter has_header later)) fine.1
     ∙ ap (λ list. file ∷ list) (files_kept last (file.job.number ∷ before) later both.1)
 
 -- the first fault of starts
-pub starts_first : (marks : List Mark) (files : List JobFile) (place : ℕ) (list : List Mark) → starts_damage marks files place list ≡ head_of (starts_faults marks files (numbered place list))
+pub starts_first : (marks : List Mark) (files : List JobFile) (place : ℕ) (list : List Mark)
+    → starts_damage marks files place list ≡ head_of (starts_faults marks files (numbered place list))
 starts_first marks files place [] = refl
 starts_first marks files place (mark ∷ later) =
     ap (option_or (mark_damage marks files place mark)) (starts_first marks files (place + 1) later)
     ∙ sym (head_cons (mark_damage marks files place mark) (starts_faults marks files (numbered (place + 1) later)))
 
 -- a start without damage at one place has none at another
-pub start_elsewhere : (place other queue : ℕ) (found : Option JobFile) → start_damage place queue found ≡ None → start_damage other queue found ≡ None
+pub start_elsewhere : (place other queue : ℕ) (found : Option JobFile) → start_damage place queue found ≡ None
+    → start_damage other queue found ≡ None
 start_elsewhere place other queue None is = let impossible : ◌≡◌ {A = Option Damage} (Some (gate_damage place)) None = is in cc
 start_elsewhere place other queue (Some file) is = by_test (file.job.queue == queue) is where
-  by_test : (b : Bool) → (if b then None else Some (queue_damage place queue)) ≡ None → (if b then None else Some (queue_damage other queue)) ≡ None
+  by_test : (b : Bool) → (if b then None else Some (queue_damage place queue)) ≡ None
+      → (if b then None else Some (queue_damage other queue)) ≡ None
   by_test true none = refl
   by_test false none = let impossible : Some (queue_damage place queue) ≡ None = none in cc
 
-whole_elsewhere : (marks : List Mark) (files : List JobFile) (place other : ℕ) (mark : Mark) → mark_damage marks files place mark ≡ None → mark_damage marks files other mark ≡ None
+whole_elsewhere : (marks : List Mark) (files : List JobFile) (place other : ℕ) (mark : Mark) → mark_damage marks files place mark ≡ None
+    → mark_damage marks files other mark ≡ None
 whole_elsewhere marks files place other (Removed number) is = refl
 whole_elsewhere marks files place other (Ended number ending) is = refl
 whole_elsewhere marks files place other (Interrupted number) is = refl
 whole_elsewhere marks files place other (Forgotten number) is = refl
 whole_elsewhere marks files place other (Batch second) is = refl
 whole_elsewhere marks files place other (Started number queue second) is = by_test (is_decided number marks) is where
-  by_test : (b : Bool) → (if b then None else start_damage place queue (file_of number files)) ≡ None → (if b then None else start_damage other queue (file_of number files)) ≡ None
+  by_test : (b : Bool) → (if b then None else start_damage place queue (file_of number files)) ≡ None
+      → (if b then None else start_damage other queue (file_of number files)) ≡ None
   by_test true none = refl
   by_test false none = start_elsewhere place other queue (file_of number files) none
 
-not_given_up : (marks : List Mark) (files : List JobFile) (mark : Mark) → mark_damage marks files 0 mark ≡ None → given_up marks files mark ≡ None
+not_given_up : (marks : List Mark) (files : List JobFile) (mark : Mark) → mark_damage marks files 0 mark ≡ None
+    → given_up marks files mark ≡ None
 not_given_up marks files (Removed number) is = refl
 not_given_up marks files (Ended number ending) is = refl
 not_given_up marks files (Interrupted number) is = refl
@@ -84,37 +94,46 @@ not_given_up marks files (Batch second) is = refl
 not_given_up marks files (Started number queue second) is = ap (option_map (λ damage. Interrupted number)) is
 
 -- no start is given up where none has a fault
-pub none_given_up : (marks : List Mark) (files : List JobFile) (taken : List TakenMark) → starts_faults marks files taken ≡ [] → filter_map (given_up marks files) (marks_of taken) ≡ []
+pub none_given_up : (marks : List Mark) (files : List JobFile) (taken : List TakenMark) → starts_faults marks files taken ≡ []
+    → filter_map (given_up marks files) (marks_of taken) ≡ []
 none_given_up marks files [] none = refl
 none_given_up marks files (one ∷ later) none =
     let both : (mark_damage marks files one.place one.mark ≡ None) × (starts_faults marks files later ≡ []) = none_first _ _ none in
-    ap (λ o. cons_option o (filter_map (given_up marks files) (marks_of later))) (not_given_up marks files one.mark (whole_elsewhere marks files one.place 0 one.mark both.0))
+    ap (λ o. cons_option o (filter_map (given_up marks files) (marks_of later)))
+    (not_given_up marks files one.mark (whole_elsewhere marks files one.place 0 one.mark both.0))
     ∙ none_given_up marks files later both.1
 
 -- a start whose job has a file that is taken is no orphan
-not_orphan : (last : ℕ) (marks : List Mark) (files : List JobFile) (mark : Mark) → mark_damage marks files 0 mark ≡ None → is_orphan last marks files mark ≡ false
+not_orphan : (last : ℕ) (marks : List Mark) (files : List JobFile) (mark : Mark) → mark_damage marks files 0 mark ≡ None
+    → is_orphan last marks files mark ≡ false
 not_orphan last marks files (Removed number) is = refl
 not_orphan last marks files (Ended number ending) is = refl
 not_orphan last marks files (Interrupted number) is = refl
 not_orphan last marks files (Forgotten number) is = refl
 not_orphan last marks files (Batch second) is = refl
-not_orphan last marks files (Started number queue second) is = by_tests (nat_lt last number) (is_decided number marks) (file_of number files) is where
-  by_tests : (above decided : Bool) (found : Option JobFile) → (if decided then None else start_damage 0 queue found) ≡ None → (above && (not decided && not (is_some found))) ≡ false
-  by_tests false decided found none = refl
-  by_tests true true found none = refl
-  by_tests true false (Some file) none = refl
-  by_tests true false None none = let impossible : ◌≡◌ {A = Option Damage} (Some (gate_damage 0)) None = none in cc
+not_orphan last marks files (Started number queue second) is =
+    by_tests (nat_lt last number) (is_decided number marks) (file_of number files) is
+  where
+    by_tests : (above decided : Bool) (found : Option JobFile) → (if decided then None else start_damage 0 queue found) ≡ None
+        → (above && (not decided && not (is_some found))) ≡ false
+    by_tests false decided found none = refl
+    by_tests true true found none = refl
+    by_tests true false (Some file) none = refl
+    by_tests true false None none = let impossible : ◌≡◌ {A = Option Damage} (Some (gate_damage 0)) None = none in cc
 
 -- there is no orphan where no start has a fault
-pub no_orphan : (last : ℕ) (marks : List Mark) (files : List JobFile) (taken : List TakenMark) → starts_faults marks files taken ≡ [] → list_any (is_orphan last marks files) (marks_of taken) ≡ false
+pub no_orphan : (last : ℕ) (marks : List Mark) (files : List JobFile) (taken : List TakenMark) → starts_faults marks files taken ≡ []
+    → list_any (is_orphan last marks files) (marks_of taken) ≡ false
 no_orphan last marks files [] none = refl
 no_orphan last marks files (one ∷ later) none =
     let both : (mark_damage marks files one.place one.mark ≡ None) × (starts_faults marks files later ≡ []) = none_first _ _ none in
-    ap (λ b. b || list_any (is_orphan last marks files) (marks_of later)) (not_orphan last marks files one.mark (whole_elsewhere marks files one.place 0 one.mark both.0))
+    ap (λ b. b || list_any (is_orphan last marks files) (marks_of later))
+    (not_orphan last marks files one.mark (whole_elsewhere marks files one.place 0 one.mark both.0))
     ∙ no_orphan last marks files later both.1
 
 -- each file of a job that counts is left
-counts_left : (marks : List Mark) (file : List ℕ × List ℕ) (of : JobFile) → counts marks file.0 ≡ true → job_file file ≡ Some of → is_left marks of ≡ true
+counts_left : (marks : List Mark) (file : List ℕ × List ℕ) (of : JobFile) → counts marks file.0 ≡ true → job_file file ≡ Some of
+    → is_left marks of ≡ true
 counts_left marks file of counted is = by_name (job_named file.0) counted is where
   by_name : (named : Option NamedJob) → counts_as marks named ≡ true → file_named file.0 file.1 named ≡ Some of → is_left marks of ≡ true
   by_name None counts_so made = let impossible : false ≡ true = counts_so in cc
@@ -128,12 +147,17 @@ all_left marks (file ∷ later) = by_test (counts marks file.0) refl (all_left m
   later_files : List (List ℕ × List ℕ)
   later_files = filter (λ (f : List ℕ × List ℕ). counts marks f.0) later
 
-  by_file : (found : Option JobFile) → counts marks file.0 ≡ true → job_file file ≡ found → filter (is_left marks) (filter_map job_file later_files) ≡ filter_map job_file later_files → filter (is_left marks) (cons_option found (filter_map job_file later_files)) ≡ cons_option found (filter_map job_file later_files)
+  by_file : (found : Option JobFile) → counts marks file.0 ≡ true → job_file file ≡ found
+      → filter (is_left marks) (filter_map job_file later_files) ≡ filter_map job_file later_files
+      → filter (is_left marks) (cons_option found (filter_map job_file later_files)) ≡ cons_option found (filter_map job_file later_files)
   by_file None counted is rest = rest
   by_file (Some of) counted is rest =
-      ap (λ b. if b then of ∷ filter (is_left marks) (filter_map job_file later_files) else filter (is_left marks) (filter_map job_file later_files)) (counts_left marks file of counted is)
+      ap (λ b. if b then of ∷ filter (is_left marks) (filter_map job_file later_files) else filter (is_left marks)
+      (filter_map job_file later_files)) (counts_left marks file of counted is)
       ∙ ap (λ list. of ∷ list) rest
 
-  by_test : (b : Bool) → counts marks file.0 ≡ b → filter (is_left marks) (filter_map job_file later_files) ≡ filter_map job_file later_files → filter (is_left marks) (filter_map job_file (if b then file ∷ later_files else later_files)) ≡ filter_map job_file (if b then file ∷ later_files else later_files)
+  by_test : (b : Bool) → counts marks file.0 ≡ b → filter (is_left marks) (filter_map job_file later_files)
+      ≡ filter_map job_file later_files → filter (is_left marks) (filter_map job_file (if b then file ∷ later_files else later_files))
+      ≡ filter_map job_file (if b then file ∷ later_files else later_files)
   by_test true counted rest = by_file (job_file file) counted refl rest
   by_test false passed rest = rest

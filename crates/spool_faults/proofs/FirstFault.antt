@@ -28,19 +28,24 @@ record IsFaultless (last : ℕ) (journal : Option (List ℕ)) : Type 0 where
   pub none : journal_faults last journal ≡ []
 
 -- the table, or the first of some faults
-table_first : (last : ℕ) (marks : List Mark) (files : List JobFile) (faults : List Damage) → table_or_damage last marks files (head_of faults) ≡ unless_faulty faults (table_shown last marks files)
+table_first : (last : ℕ) (marks : List Mark) (files : List JobFile) (faults : List Damage)
+    → table_or_damage last marks files (head_of faults) ≡ unless_faulty faults (table_shown last marks files)
 table_first last marks files [] = refl
 table_first last marks files (fault ∷ later) = refl
 
 -- what is saved where there is no fault at all
-saved_whole : (last : ℕ) (journal : Option (List ℕ)) (files : List (List ℕ × List ℕ)) → IsFaultless last journal → jobs_faults last (marks_taken journal) (taken_of journal) files ≡ [] → saved_after (Ok last) journal files ≡ table_shown last (marks_taken journal) (job_files (marks_taken journal) files)
+saved_whole : (last : ℕ) (journal : Option (List ℕ)) (files : List (List ℕ × List ℕ))
+    → IsFaultless last journal → jobs_faults last (marks_taken journal) (taken_of journal) files ≡ []
+    → saved_after (Ok last) journal files ≡ table_shown last (marks_taken journal) (job_files (marks_taken journal) files)
 saved_whole last journal files whole none =
     let marks : List Mark = marks_taken journal in
-    let both : (files_faults last [] (job_files marks files) ≡ []) × (starts_faults marks (files_taken marks files) (taken_of journal) ≡ []) = both_empty _ _ none in
+    let both : (files_faults last [] (job_files marks files) ≡ [])
+    × (starts_faults marks (files_taken marks files) (taken_of journal) ≡ []) = both_empty _ _ none in
     let drawn = taken_drawn last journal whole.none in
     let all : files_taken marks files ≡ job_files marks files = files_kept last [] (job_files marks files) both.0 in
     let saved : saved_marks (Ok last) journal files ≡ marks =
-    ap (λ faults. marks_with marks (files_taken marks files) (is_faulty faults || list_any (is_orphan last marks (files_taken marks files)) marks)) (journal_wider last LAST_NUMBER journal whole.few whole.none)
+    ap (λ faults. marks_with marks (files_taken marks files) (is_faulty faults
+    || list_any (is_orphan last marks (files_taken marks files)) marks)) (journal_wider last LAST_NUMBER journal whole.few whole.none)
     ∙ ap (marks_with marks (files_taken marks files)) (no_orphan last marks (files_taken marks files) (taken_of journal) both.1)
     ∙ ap (λ list. marks ++ (list ++ [])) (none_given_up marks (files_taken marks files) (taken_of journal) both.1)
     ∙ append-nil marks in
@@ -55,7 +60,9 @@ saved_whole last journal files whole none =
     ∙ ap (table_shown last marks) left
 
 -- the files of jobs and the starts, where the sequence file and the journal have no fault
-jobs_first : (last : ℕ) (journal : Option (List ℕ)) (files : List (List ℕ × List ℕ)) → IsFaultless last journal → shown_by_files last (marks_taken journal) (job_files (marks_taken journal) files) ≡ unless_faulty (jobs_faults last (marks_taken journal) (taken_of journal) files) (saved_after (Ok last) journal files)
+jobs_first : (last : ℕ) (journal : Option (List ℕ)) (files : List (List ℕ × List ℕ)) → IsFaultless last journal
+    → shown_by_files last (marks_taken journal) (job_files (marks_taken journal) files)
+    ≡ unless_faulty (jobs_faults last (marks_taken journal) (taken_of journal) files) (saved_after (Ok last) journal files)
 jobs_first last journal files whole = by_files (files_faults last [] (job_files marks files)) refl where
   marks : List Mark
   marks = marks_taken journal
@@ -67,16 +74,19 @@ jobs_first last journal files whole = by_files (files_faults last [] (job_files 
   all : List Damage
   all = jobs_faults last marks (taken_of journal) files
 
-  by_none : (faults : List Damage) → all ≡ faults → unless_faulty faults (table_shown last marks jobs) ≡ unless_faulty faults (saved_after (Ok last) journal files)
+  by_none : (faults : List Damage) → all ≡ faults
+      → unless_faulty faults (table_shown last marks jobs) ≡ unless_faulty faults (saved_after (Ok last) journal files)
   by_none [] none = ap Ok (sym (saved_whole last journal files whole none))
   by_none (fault ∷ later) some = refl
 
   -- where the first fault is
-  first_is : damage_of_jobs last marks jobs ≡ head_of all → shown_by_files last marks jobs ≡ unless_faulty all (saved_after (Ok last) journal files)
+  first_is : damage_of_jobs last marks jobs ≡ head_of all
+      → shown_by_files last marks jobs ≡ unless_faulty all (saved_after (Ok last) journal files)
   first_is same =
       ap (table_or_damage last marks jobs) same ∙ table_first last marks jobs all ∙ by_none all refl
 
-  by_files : (faults : List Damage) → files_faults last [] jobs ≡ faults → shown_by_files last marks jobs ≡ unless_faulty all (saved_after (Ok last) journal files)
+  by_files : (faults : List Damage) → files_faults last [] jobs ≡ faults
+      → shown_by_files last marks jobs ≡ unless_faulty all (saved_after (Ok last) journal files)
   by_files [] none =
       let taken : starts_damage marks jobs 0 marks ≡ head_of (starts_faults marks (files_taken marks files) (taken_of journal)) =
       starts_first marks jobs 0 marks
@@ -92,22 +102,30 @@ jobs_first last journal files whole = by_files (files_faults last [] (job_files 
       ∙ ap (λ list. head_of (list ++ starts_faults marks (files_taken marks files) (taken_of journal))) (sym some))
 
 -- the journal, where the sequence file has no fault
-journal_then : (last : ℕ) (journal : Option (List ℕ)) (files : List (List ℕ × List ℕ)) → last ≤ LAST_NUMBER → shown_after_journal last (journal_in last journal) files ≡ unless_faulty (faults_after (Ok last) journal files) (saved_after (Ok last) journal files)
+journal_then : (last : ℕ) (journal : Option (List ℕ)) (files : List (List ℕ × List ℕ)) → last ≤ LAST_NUMBER → shown_after_journal last
+    (journal_in last journal) files ≡ unless_faulty (faults_after (Ok last) journal files) (saved_after (Ok last) journal files)
 journal_then last journal files few = by_faults (journal_faults last journal) refl where
-  by_faults : (faults : List Damage) → journal_faults last journal ≡ faults → shown_after_journal last (journal_in last journal) files ≡ unless_faulty (faults_after (Ok last) journal files) (saved_after (Ok last) journal files)
+  by_faults : (faults : List Damage) → journal_faults last journal ≡ faults → shown_after_journal last (journal_in last journal) files
+      ≡ unless_faulty (faults_after (Ok last) journal files) (saved_after (Ok last) journal files)
   by_faults [] none =
-      let read : journal_in last journal ≡ Ok (read_of journal) = journal_first last journal ∙ ap (λ list. unless_faulty list (read_of journal)) none in
+      let read : journal_in last journal ≡ Ok (read_of journal) = journal_first last journal
+      ∙ ap (λ list. unless_faulty list (read_of journal)) none in
       ap (λ answer. shown_after_journal last answer files) read
       ∙ ap (λ list. shown_by_files last list (job_files list files)) (read_marks journal)
       ∙ jobs_first last journal files (record { few = few; none = none })
-      ∙ ap (λ list. unless_faulty (list ++ jobs_faults last (marks_taken journal) (taken_of journal) files) (saved_after (Ok last) journal files)) (sym none)
+      ∙ ap (λ list. unless_faulty (list ++ jobs_faults last (marks_taken journal) (taken_of journal) files)
+      (saved_after (Ok last) journal files)) (sym none)
   by_faults (fault ∷ later) some =
-      let read : journal_in last journal ≡ Err fault = journal_first last journal ∙ ap (λ list. unless_faulty list (read_of journal)) some in
+      let read : journal_in last journal ≡ Err fault = journal_first last journal
+      ∙ ap (λ list. unless_faulty list (read_of journal)) some in
       ap (λ answer. shown_after_journal last answer files) read
-      ∙ ap (λ list. unless_faulty (list ++ jobs_faults last (marks_taken journal) (taken_of journal) files) (saved_after (Ok last) journal files)) (sym some)
+      ∙ ap (λ list. unless_faulty (list ++ jobs_faults last (marks_taken journal) (taken_of journal) files)
+      (saved_after (Ok last) journal files)) (sym some)
 
 -- the sequence file
-last_then : (content : Option (List ℕ)) (last : Result ℕ Damage) (journal : Option (List ℕ)) (files : List (List ℕ × List ℕ)) → find name_cmp journal_file files ≡ journal → last_in content ≡ last → shown_after_last last files ≡ unless_faulty (faults_after last journal files) (saved_after last journal files)
+last_then : (content : Option (List ℕ)) (last : Result ℕ Damage) (journal : Option (List ℕ)) (files : List (List ℕ × List ℕ))
+    → find name_cmp journal_file files ≡ journal → last_in content ≡ last
+    → shown_after_last last files ≡ unless_faulty (faults_after last journal files) (saved_after last journal files)
 last_then content (Ok last) journal files held is =
     ap (λ of. shown_after_journal last (journal_in last of) files) held ∙ journal_then last journal files (few_last content last is)
 last_then content (Err damage) journal files held is = refl
@@ -115,7 +133,8 @@ last_then content (Err damage) journal files held is = refl
 pub damage_is_the_first_fault : DamageIsTheFirstFault
 unfolding shown_by faults_of salvaged
 damage_is_the_first_fault files =
-    last_then (find name_cmp sequence_file (entries files)) (last_in (find name_cmp sequence_file (entries files))) (find name_cmp journal_file (entries files)) (entries files) refl refl
+    last_then (find name_cmp sequence_file (entries files)) (last_in (find name_cmp sequence_file (entries files)))
+    (find name_cmp journal_file (entries files)) (entries files) refl refl
 
 -- a directory without a fault is saved whole
 saved_by : (files : Files) (faults : List Damage) → faults_of files ≡ faults → IsSavedWhole files
@@ -123,7 +142,8 @@ saved_by files [] none = record {
   shown = λ is. damage_is_the_first_fault files ∙ ap (λ list. unless_faulty list (salvaged files)) is;
   none = λ table shows. none;
   saved = λ table shows.
-      let both : Ok table ≡ Ok (salvaged files) = sym shows ∙ damage_is_the_first_fault files ∙ ap (λ list. unless_faulty list (salvaged files)) none in
+      let both : Ok table ≡ Ok (salvaged files) = sym shows ∙ damage_is_the_first_fault files
+      ∙ ap (λ list. unless_faulty list (salvaged files)) none in
       cc;
 }
 saved_by files (fault ∷ later) some = record {
@@ -133,7 +153,8 @@ saved_by files (fault ∷ later) some = record {
 } where
   no_table : (table : JobTable) → Shows files table → ⊥
   no_table table shows =
-      let impossible : Ok table ≡ Err fault = sym shows ∙ damage_is_the_first_fault files ∙ ap (λ list. unless_faulty list (salvaged files)) some in
+      let impossible : Ok table ≡ Err fault = sym shows ∙ damage_is_the_first_fault files
+      ∙ ap (λ list. unless_faulty list (salvaged files)) some in
       cc
 
 pub faultless_directories_are_saved_whole : FaultlessDirectoriesAreSavedWhole

@@ -50,27 +50,33 @@ no_fault_read bytes has = ap (header_fault_in bytes) ((header_in-some bytes has.
 
 -- Which files count.
 
-pub counted_some : (marks : List Mark) (decided : BTreeSet ℕ) (name : List ℕ) (job : JobName) → AreDecidedNumbers marks decided → job_named name ≡ Some (job_of_name job) → false ≡ contains nat_cmp decided job.number → IsCountedName marks name (Some job)
+pub counted_some : (marks : List Mark) (decided : BTreeSet ℕ) (name : List ℕ) (job : JobName) → AreDecidedNumbers marks decided
+    → job_named name ≡ Some (job_of_name job) → false ≡ contains nat_cmp decided job.number → IsCountedName marks name (Some job)
 counted_some marks decided name job are named is = (ap (counts_as marks) named ∙ ap not (sym (is ∙ are job.number)), named)
 
-pub counted_none : (marks : List Mark) (decided : BTreeSet ℕ) (name : List ℕ) (job : JobName) → AreDecidedNumbers marks decided → job_named name ≡ Some (job_of_name job) → true ≡ contains nat_cmp decided job.number → counts marks name ≡ false
+pub counted_none : (marks : List Mark) (decided : BTreeSet ℕ) (name : List ℕ) (job : JobName) → AreDecidedNumbers marks decided
+    → job_named name ≡ Some (job_of_name job) → true ≡ contains nat_cmp decided job.number → counts marks name ≡ false
 counted_none marks decided name job are named is = ap (counts_as marks) named ∙ ap not (sym (is ∙ are job.number))
 
 -- a name that spells no job
-pub not_named : (name : List ℕ) → ((queue number minute : ℕ) (new_form : Bool) → ¬ (SpellsJobName name queue number minute new_form)) → job_named name ≡ None
+pub not_named : (name : List ℕ)
+    → ((queue number minute : ℕ) (new_form : Bool) → ¬ (SpellsJobName name queue number minute new_form)) → job_named name ≡ None
 not_named name none = by_named (job_named name) refl where
   by_named : (named : Option NamedJob) → job_named name ≡ named → job_named name ≡ None
   by_named None is = is
   by_named (Some job) is = absurd (none job.queue job.number job.minute job.new_form (name_spelled name job is))
 
-pub none_named : (marks : List Mark) (name : List ℕ) → ((queue number minute : ℕ) (new_form : Bool) → ¬ (SpellsJobName name queue number minute new_form)) → counts marks name ≡ false
+pub none_named : (marks : List Mark) (name : List ℕ)
+    → ((queue number minute : ℕ) (new_form : Bool) → ¬ (SpellsJobName name queue number minute new_form)) → counts marks name ≡ false
 none_named marks name none = ap (counts_as marks) (not_named name none)
 
-pub named_job : (name : List ℕ) (job : JobName) → SpellsJobName name job.queue job.number job.minute job.new_form → job_named name ≡ Some (job_of_name job)
+pub named_job : (name : List ℕ) (job : JobName) → SpellsJobName name job.queue job.number job.minute job.new_form
+    → job_named name ≡ Some (job_of_name job)
 named_job name job spelled = name_given name job.queue job.number job.minute job.new_form spelled
 
 -- the finished numbers, with one more mark
-pub decided_pass : (number : ℕ) (marks : List Mark) (place : ℕ) (other : Mark) (old new : Bool) → place < length marks → old ≡ is_decided number (take place marks) → new ≡ (old || decides number (get_or marks place other)) → new ≡ is_decided number (take (place + 1) marks)
+pub decided_pass : (number : ℕ) (marks : List Mark) (place : ℕ) (other : Mark) (old new : Bool) → place < length marks → old ≡ is_decided
+    number (take place marks) → new ≡ (old || decides number (get_or marks place other)) → new ≡ is_decided number (take (place + 1) marks)
 decided_pass number marks place other old new inside before is =
     let one : Mark = get_or marks place other in
     is ∙ ap (λ b. b || decides number one) before
@@ -81,17 +87,22 @@ decided_pass number marks place other old new inside before is =
       last_of true = refl
       last_of false = refl
 
-pub decided_all : (marks : List Mark) (place : ℕ) (decided : BTreeSet ℕ) → length marks ≤ place → AreDecidedNumbers (take place marks) decided → AreDecidedNumbers marks decided
+pub decided_all : (marks : List Mark) (place : ℕ) (decided : BTreeSet ℕ) → length marks ≤ place
+    → AreDecidedNumbers (take place marks) decided → AreDecidedNumbers marks decided
 decided_all marks place decided past are = subst (λ list. AreDecidedNumbers list decided) (take_all place marks past) are
 
 -- One more file.
 
-pub counted_found : (marks : List Mark) (name bytes prefix : List ℕ) (job : JobName) (old new : List JobFile) → IsCountedName marks name (Some job) → new ≡ old ++ record { name = name; job = job_of_name job; bytes = prefix } ∷ [] → prefix ≡ bytes → new ≡ old ++ job_files marks ((name, bytes) ∷ [])
+pub counted_found : (marks : List Mark) (name bytes prefix : List ℕ) (job : JobName) (old new : List JobFile)
+    → IsCountedName marks name (Some job) → new ≡ old ++ record { name = name; job = job_of_name job; bytes = prefix } ∷ [] → prefix ≡ bytes
+    → new ≡ old ++ job_files marks ((name, bytes) ∷ [])
 counted_found marks name bytes prefix job old new counted more same =
     more ∙ ap (λ (b : List ℕ). old ++ record { name = name; job = job_of_name job; bytes = b } ∷ []) same
     ∙ ap (λ list. old ++ list) (sym (
-    ap (λ b. filter_map job_file (cond b ((name, bytes) ∷ []) [])) counted.0 ∙ ap (λ one. cons_option (file_named name bytes one) []) counted.1))
+    ap (λ b. filter_map job_file (cond b ((name, bytes) ∷ []) [])) counted.0
+    ∙ ap (λ one. cons_option (file_named name bytes one) []) counted.1))
 
-pub other_found : (marks : List Mark) (name bytes : List ℕ) (old : List JobFile) → counts marks name ≡ false → old ≡ old ++ job_files marks ((name, bytes) ∷ [])
+pub other_found : (marks : List Mark) (name bytes : List ℕ) (old : List JobFile) → counts marks name ≡ false
+    → old ≡ old ++ job_files marks ((name, bytes) ∷ [])
 other_found marks name bytes old fails =
     sym (append-nil old) ∙ ap (λ list. old ++ list) (sym (ap (λ b. filter_map job_file (cond b ((name, bytes) ∷ []) [])) fails))

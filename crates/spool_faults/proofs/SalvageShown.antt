@@ -22,10 +22,13 @@ salvages_show_what_is_taken files salvage is =
     let journal : Option (List ℕ) = find name_cmp journal_file (entries files) in
     ap (λ found. shown_after_last (last_in found) (entries salvage)) (sym (get-entries salvage sequence_file))
     ∙ ap (λ number. shown_after_last number (entries salvage)) is.number
-    ∙ ap (λ found. shown_after_journal (last_of_salvage files) (journal_in (last_of_salvage files) found) (entries salvage)) (sym (get-entries salvage journal_file))
-    ∙ ap (λ read. shown_after_journal (last_of_salvage files) read (entries salvage)) (is.journal (last_of_salvage files) (saved_drawn last journal (entries files)))
+    ∙ ap (λ found. shown_after_journal (last_of_salvage files) (journal_in (last_of_salvage files) found) (entries salvage))
+    (sym (get-entries salvage journal_file))
+    ∙ ap (λ read. shown_after_journal (last_of_salvage files) read (entries salvage))
+    (is.journal (last_of_salvage files) (saved_drawn last journal (entries files)))
     ∙ ap (shown_by_files (last_of_salvage files) (marks_of_salvage files)) (same_files files salvage is)
-    ∙ ap (table_or_damage (last_of_salvage files) (marks_of_salvage files) (files_of_salvage files)) (saved_undamaged last journal (entries files))
+    ∙ ap (table_or_damage (last_of_salvage files) (marks_of_salvage files) (files_of_salvage files))
+    (saved_undamaged last journal (entries files))
 
 pub salvages_have_no_fault : SalvagesHaveNoFault
 salvages_have_no_fault files salvage is =

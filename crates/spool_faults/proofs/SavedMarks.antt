@@ -12,7 +12,8 @@ use Rattle.spool_faults.proofs.JournalFirst.{past_all, read_marks}
 -- one slot more keeps the marks sound
 one_sound : (marks : List Mark) (slot : List ℕ) → IsSound marks → IsSound (with_taken marks (legal_mark marks (mark_in slot)))
 one_sound marks slot sound = by_mark (mark_in slot) refl where
-  by_legal : (mark : Mark) (legal : Bool) → mark_in slot ≡ Some mark → is_legal_after marks mark ≡ legal → IsSound (with_taken marks (if legal then Some mark else None))
+  by_legal : (mark : Mark) (legal : Bool) → mark_in slot ≡ Some mark → is_legal_after marks mark ≡ legal
+      → IsSound (with_taken marks (if legal then Some mark else None))
   by_legal mark true found legal = sound_more marks mark sound legal (writable_tested mark (spells slot mark found).writable)
   by_legal mark false found legal = sound
 
@@ -29,4 +30,5 @@ pub taken_sound : (content : Option (List ℕ)) → are_sound (marks_taken conte
 taken_sound None = ap are_sound (sym (read_marks None))
 taken_sound (Some bytes) =
     ap are_sound (sym (read_marks (Some bytes)))
-    ∙ sound_tested (past_all nothing_read (slots_of bytes)).marks (past_sound nothing_read (slots_of bytes) (record { legal = refl; writable = refl }))
+    ∙ sound_tested (past_all nothing_read (slots_of bytes)).marks
+    (past_sound nothing_read (slots_of bytes) (record { legal = refl; writable = refl }))

@@ -17,26 +17,32 @@ settled_before : (start new : Directory) (image : Files) → IsSettled start new
 settled_before start new image done is =
     subst (IsImage start) (sym (settled_image start image (subst (λ directory. IsImage directory image) done is))) (reading_is_image start)
 
-settling : {T : Type 0} (old new : World) (result : Result T HostFault) → FileCall IsSettled IsSyncedInPart old new result → ChangesFiles (IsImage old.now.directory) old new
+settling : {T : Type 0} (old new : World) (result : Result T HostFault) → FileCall IsSettled IsSyncedInPart old new result
+    → ChangesFiles (IsImage old.now.directory) old new
 settling old new result call =
-    changes_then (IsImage old.now.directory) IsSettled IsSyncedInPart old old new result (changes_none (IsImage old.now.directory) old) call (λ image within. elim within [
+    changes_then (IsImage old.now.directory) IsSettled IsSyncedInPart old old new result (changes_none (IsImage old.now.directory) old) call
+    (λ image within. elim within [
       | inl is ↦ is
       | inr done ↦ settled_before old.now.directory done.0 image done.1 done.2
     ])
 
 -- and reads as before, whatever came of it
-settling_reads : {T : Type 0} (old new : World) (result : Result T HostFault) → FileCall IsSettled IsSyncedInPart old new result → reading new ≡ reading old
+settling_reads : {T : Type 0} (old new : World) (result : Result T HostFault) → FileCall IsSettled IsSyncedInPart old new result
+    → reading new ≡ reading old
 settling_reads old new (Ok value) call = ap reading_of call.outcome ∙ reading_of-settled old.now.directory
 settling_reads old new (Err host.Failed) call = elim call.outcome [ inl same ↦ ap reading_of same | inr part ↦ part.reading ]
 settling_reads old new (Err host.Memory) call = ap reading call.outcome
 
-pub settling_leaves : {T : Type 0} (old new : World) (result : Result T HostFault) → FileCall IsSettled IsSyncedInPart old new result → LeavesDirectory old new
+pub settling_leaves : {T : Type 0} (old new : World) (result : Result T HostFault) → FileCall IsSettled IsSyncedInPart old new result
+    → LeavesDirectory old new
 settling_leaves old new result call = record { same = settling_reads old new result call; files = settling old new result call }
 
 -- looking after it changes nothing
-pub looked_leaves : {T : Type 0} (old settled new : World) (result : Result T HostFault) → FileCall IsSettled IsSyncedInPart old settled result → new ≡ settled → LeavesDirectory old new
+pub looked_leaves : {T : Type 0} (old settled new : World) (result : Result T HostFault)
+    → FileCall IsSettled IsSyncedInPart old settled result → new ≡ settled → LeavesDirectory old new
 looked_leaves old settled new result call same = subst (LeavesDirectory old) (sym same) (settling_leaves old settled result call)
 
 -- its faults, after none
-pub faults_after : (settled : World) (start faults : List Damage) → faults ≡ start ++ faults_of (reading settled) → start ≡ [] → faults ≡ faults_of (reading settled)
+pub faults_after : (settled : World) (start faults : List Damage) → faults ≡ start ++ faults_of (reading settled) → start ≡ []
+    → faults ≡ faults_of (reading settled)
 faults_after settled start faults is none = is ∙ ap (λ list. list ++ faults_of (reading settled)) none

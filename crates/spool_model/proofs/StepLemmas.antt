@@ -32,11 +32,15 @@ last_never_falls table (step ∷ later) legal =
     omega (arith, last_rises table.last step, last_never_falls (after_step table step) later legal.1)
 
 -- a pending job that was not put there by the last change was there before it
-pending_before : (entries : JobEntries) (number other : ℕ) (entry : JobEntry) (job : Job) → ¬ (Some entry ≡ Some (Live job Pending)) → map.get (map.insert entries number entry) other ≡ Some (Live job Pending) → map.get entries other ≡ Some (Live job Pending)
-pending_before entries number other entry job differs is = other_choice (nat_eq other number) (Some entry) (map.get entries other) _ differs (sym (get-put entries number other entry) ∙ is)
+pending_before : (entries : JobEntries) (number other : ℕ) (entry : JobEntry) (job : Job) → ¬ (Some entry ≡ Some (Live job Pending))
+    → map.get (map.insert entries number entry) other ≡ Some (Live job Pending) → map.get entries other ≡ Some (Live job Pending)
+pending_before entries number other entry job differs is =
+    other_choice (nat_eq other number) (Some entry) (map.get entries other) _ differs (sym (get-put entries number other entry) ∙ is)
 
-pending_before_taken : (entries : JobEntries) (number other : ℕ) (job : Job) → map.get (map.remove entries number) other ≡ Some (Live job Pending) → map.get entries other ≡ Some (Live job Pending)
-pending_before_taken entries number other job is = other_choice (nat_eq other number) None (map.get entries other) _ (λ same. cc) (sym (get-taken entries number other) ∙ is)
+pending_before_taken : (entries : JobEntries) (number other : ℕ) (job : Job)
+    → map.get (map.remove entries number) other ≡ Some (Live job Pending) → map.get entries other ≡ Some (Live job Pending)
+pending_before_taken entries number other job is =
+    other_choice (nat_eq other number) None (map.get entries other) _ (λ same. cc) (sym (get-taken entries number other) ∙ is)
 
 -- no entry, and some entry
 no_entry : (held : Option JobEntry) → held ≡ None → IsSome held → ⊥
@@ -49,30 +53,36 @@ no_step_leads_back_to_pending table (Accept accepted other) legal number job som
   | inl same ↦ absurd (no_entry _ (ap (entry_at table) same.1 ∙ legal.absent) some)
   | inr apart ↦ sym (get-put_other table.entries accepted number _ apart.1) ∙ is
 ]
-no_step_leads_back_to_pending table (Remove removed) legal number job some is = pending_before table.entries removed number _ job (λ same. cc) is
+no_step_leads_back_to_pending table (Remove removed) legal number job some is =
+    pending_before table.entries removed number _ job (λ same. cc) is
 no_step_leads_back_to_pending table (Start started second) legal number job some is =
     pending_before table.entries started number (Live legal.0 (Running second)) job (λ same. cc)
     (subst (λ held. map.get (with_state started (Running second) held table.entries) number ≡ Some (Live job Pending)) legal.1 is)
-no_step_leads_back_to_pending table (End ended ending) legal number job some is = pending_before table.entries ended number _ job (λ same. cc) is
-no_step_leads_back_to_pending table (Interrupt ended) legal number job some is = pending_before table.entries ended number _ job (λ same. cc) is
+no_step_leads_back_to_pending table (End ended ending) legal number job some is =
+    pending_before table.entries ended number _ job (λ same. cc) is
+no_step_leads_back_to_pending table (Interrupt ended) legal number job some is =
+    pending_before table.entries ended number _ job (λ same. cc) is
 no_step_leads_back_to_pending table (Forget forgotten) legal number job some is = pending_before_taken table.entries forgotten number job is
 
 -- an entry after a change of a job that has one was there before it
-some_by_change : (table : JobTable) (number changed : ℕ) (before after : JobEntry) → entry_at table changed ≡ Some before → IsSome (map.get (map.insert table.entries changed after) number) → IsSome (entry_at table number)
+some_by_change : (table : JobTable) (number changed : ℕ) (before after : JobEntry) → entry_at table changed ≡ Some before
+    → IsSome (map.get (map.insert table.entries changed after) number) → IsSome (entry_at table number)
 some_by_change table number changed before after was some = elim (some_after_put table.entries changed number after some) [
   | inl same ↦ subst IsSome (sym (ap (entry_at table) same ∙ was)) refl
   | inr there ↦ there
 ]
 
 -- an entry after a step was there before it, or its number was free
-some_before : (table : JobTable) (step : Step) → IsLegal table step → (number : ℕ) → IsSome (entry_at (after_step table step) number) → IsSome (entry_at table number) ⊎ IsFree table number
+some_before : (table : JobTable) (step : Step) → IsLegal table step → (number : ℕ) → IsSome (entry_at (after_step table step) number)
+    → IsSome (entry_at table number) ⊎ IsFree table number
 some_before table Draw legal number some = inl some
 some_before table (Accept accepted job) legal number some = elim (some_after_put table.entries accepted number _ some) [
   | inl same ↦ inr (subst (IsFree table) (sym same) legal)
   | inr there ↦ inl there
 ]
 some_before table (Remove removed) legal number some = inl (some_by_change table number removed _ _ legal.1 some)
-some_before table (Start started second) legal number some = inl (some_by_change table number started (Live legal.0 Pending) (Live legal.0 (Running second)) legal.1
+some_before table (Start started second) legal number some =
+    inl (some_by_change table number started (Live legal.0 Pending) (Live legal.0 (Running second)) legal.1
     (subst (λ held. IsSome (map.get (with_state started (Running second) held table.entries) number)) legal.1 some))
 some_before table (End ended ending) legal number some = inl (some_by_change table number ended _ _ legal.2 some)
 some_before table (Interrupt ended) legal number some = inl (some_by_change table number ended _ _ legal.2 some)
@@ -108,7 +118,8 @@ step_keeps_sound table step sound legal = record {
 
 pub steps_keep_the_table_sound : StepsKeepTheTableSound
 steps_keep_the_table_sound table [] sound legal = sound
-steps_keep_the_table_sound table (step ∷ later) sound legal = steps_keep_the_table_sound (after_step table step) later (step_keeps_sound table step sound legal.0) legal.1
+steps_keep_the_table_sound table (step ∷ later) sound legal =
+    steps_keep_the_table_sound (after_step table step) later (step_keeps_sound table step sound legal.0) legal.1
 
 pub prefixes_are_legal : PrefixesAreLegal
 prefixes_are_legal table [] beyond legal = record { prefix_legal = tt; rest_legal = legal; joined = refl }
@@ -134,45 +145,61 @@ other_accepted number accepted times differ = elim (eqb_tells number accepted) [
 ]
 
 -- a number that is old is no longer accepted
-none_of_old : (drawn : Bool) (table : JobTable) (steps : List Step) → AreLegal table steps → FollowDraws drawn steps → (number : ℕ) → IsOld drawn number table.last → times_accepted number steps ≡ 0
+none_of_old : (drawn : Bool) (table : JobTable) (steps : List Step) → AreLegal table steps → FollowDraws drawn steps → (number : ℕ)
+    → IsOld drawn number table.last → times_accepted number steps ≡ 0
 none_of_old drawn table [] legal follow number old = refl
 none_of_old drawn table (Draw ∷ later) legal follow number old =
     let was : number ≤ table.last = old_is_drawn drawn number table.last old in
     none_of_old true (after_step table Draw) later legal.1 follow number (omega arith)
 none_of_old true table (Accept accepted job ∷ later) legal follow number old =
     let differ : ¬ (number ≡ accepted) = λ same. omega (arith, legal.0.last) in
-    other_accepted number accepted _ differ ∙ none_of_old false (after_step table (Accept accepted job)) later legal.1 follow.1 number (omega arith)
+    other_accepted number accepted _ differ
+    ∙ none_of_old false (after_step table (Accept accepted job)) later legal.1 follow.1 number (omega arith)
 none_of_old false table (Accept accepted job ∷ later) legal follow number old = absurd (no_draw follow.0) where
   no_draw : IsTrue false → ⊥
   no_draw is = cc
-none_of_old drawn table (Remove removed ∷ later) legal follow number old = none_of_old false (after_step table (Remove removed)) later legal.1 follow number (old_is_drawn drawn number table.last old)
-none_of_old drawn table (Start started second ∷ later) legal follow number old = none_of_old false (after_step table (Start started second)) later legal.1 follow number (old_is_drawn drawn number table.last old)
-none_of_old drawn table (End ended ending ∷ later) legal follow number old = none_of_old false (after_step table (End ended ending)) later legal.1 follow number (old_is_drawn drawn number table.last old)
-none_of_old drawn table (Interrupt ended ∷ later) legal follow number old = none_of_old false (after_step table (Interrupt ended)) later legal.1 follow number (old_is_drawn drawn number table.last old)
-none_of_old drawn table (Forget forgotten ∷ later) legal follow number old = none_of_old false (after_step table (Forget forgotten)) later legal.1 follow number (old_is_drawn drawn number table.last old)
+none_of_old drawn table (Remove removed ∷ later) legal follow number old =
+    none_of_old false (after_step table (Remove removed)) later legal.1 follow number (old_is_drawn drawn number table.last old)
+none_of_old drawn table (Start started second ∷ later) legal follow number old =
+    none_of_old false (after_step table (Start started second)) later legal.1 follow number (old_is_drawn drawn number table.last old)
+none_of_old drawn table (End ended ending ∷ later) legal follow number old =
+    none_of_old false (after_step table (End ended ending)) later legal.1 follow number (old_is_drawn drawn number table.last old)
+none_of_old drawn table (Interrupt ended ∷ later) legal follow number old =
+    none_of_old false (after_step table (Interrupt ended)) later legal.1 follow number (old_is_drawn drawn number table.last old)
+none_of_old drawn table (Forget forgotten ∷ later) legal follow number old =
+    none_of_old false (after_step table (Forget forgotten)) later legal.1 follow number (old_is_drawn drawn number table.last old)
 
 pub old_numbers_are_not_accepted : OldNumbersAreNotAccepted
 old_numbers_are_not_accepted table steps legal follow number old = none_of_old false table steps legal follow number old
 
 -- each number is accepted at most once, whether or not one was drawn just now
-at_most_once : (drawn : Bool) (table : JobTable) (steps : List Step) → AreLegal table steps → FollowDraws drawn steps → (number : ℕ) → times_accepted number steps ≤ 1
+at_most_once : (drawn : Bool) (table : JobTable) (steps : List Step) → AreLegal table steps → FollowDraws drawn steps → (number : ℕ)
+    → times_accepted number steps ≤ 1
 at_most_once drawn table [] legal follow number = omega arith
 at_most_once drawn table (Draw ∷ later) legal follow number = at_most_once true (after_step table Draw) later legal.1 follow number
 at_most_once drawn table (Accept accepted job ∷ later) legal follow number = elim (eqb_tells number accepted) [
   | inl same ↦
       let was : number ≤ table.last = omega (arith, same.1, legal.0.last) in
-      let none : times_accepted number later ≡ 0 = none_of_old false (after_step table (Accept accepted job)) later legal.1 follow.1 number was in
-      let one : times_accepted number (Accept accepted job ∷ later) ≡ times_accepted number later + 1 = ap (λ b. cond b (times_accepted number later + 1) (times_accepted number later)) same.0 in
+      let none : times_accepted number later ≡ 0 =
+      none_of_old false (after_step table (Accept accepted job)) later legal.1 follow.1 number was in
+      let one : times_accepted number (Accept accepted job ∷ later) ≡ times_accepted number later + 1 =
+      ap (λ b. cond b (times_accepted number later + 1) (times_accepted number later)) same.0 in
       omega (arith, one, none)
   | inr apart ↦
-      let others : times_accepted number (Accept accepted job ∷ later) ≡ times_accepted number later = other_accepted number accepted _ apart.1 in
+      let others : times_accepted number (Accept accepted job ∷ later) ≡ times_accepted number later =
+      other_accepted number accepted _ apart.1 in
       omega (arith, others, at_most_once false (after_step table (Accept accepted job)) later legal.1 follow.1 number)
 ]
-at_most_once drawn table (Remove removed ∷ later) legal follow number = at_most_once false (after_step table (Remove removed)) later legal.1 follow number
-at_most_once drawn table (Start started second ∷ later) legal follow number = at_most_once false (after_step table (Start started second)) later legal.1 follow number
-at_most_once drawn table (End ended ending ∷ later) legal follow number = at_most_once false (after_step table (End ended ending)) later legal.1 follow number
-at_most_once drawn table (Interrupt ended ∷ later) legal follow number = at_most_once false (after_step table (Interrupt ended)) later legal.1 follow number
-at_most_once drawn table (Forget forgotten ∷ later) legal follow number = at_most_once false (after_step table (Forget forgotten)) later legal.1 follow number
+at_most_once drawn table (Remove removed ∷ later) legal follow number =
+    at_most_once false (after_step table (Remove removed)) later legal.1 follow number
+at_most_once drawn table (Start started second ∷ later) legal follow number =
+    at_most_once false (after_step table (Start started second)) later legal.1 follow number
+at_most_once drawn table (End ended ending ∷ later) legal follow number =
+    at_most_once false (after_step table (End ended ending)) later legal.1 follow number
+at_most_once drawn table (Interrupt ended ∷ later) legal follow number =
+    at_most_once false (after_step table (Interrupt ended)) later legal.1 follow number
+at_most_once drawn table (Forget forgotten ∷ later) legal follow number =
+    at_most_once false (after_step table (Forget forgotten)) later legal.1 follow number
 
 pub numbers_are_accepted_once : NumbersAreAcceptedOnce
 numbers_are_accepted_once table steps legal follow number = at_most_once false table steps legal follow number
@@ -185,6 +212,7 @@ new_is_sound entries none = rw none (record {
 })
 
 -- a legal step keeps a table sound that is known by its fields
-pub sound_after : (inside table : JobTable) (step taken : Step) → inside ≡ table → taken ≡ step → IsLegal table taken → IsSound inside → IsSound (after_step inside step)
+pub sound_after : (inside table : JobTable) (step taken : Step) → inside ≡ table → taken ≡ step → IsLegal table taken → IsSound inside
+    → IsSound (after_step inside step)
 sound_after inside table step taken is same legal sound =
     step_keeps_sound inside step sound (subst (λ step. IsLegal inside step) same (subst (λ table. IsLegal table taken) (sym is) legal))

@@ -14,12 +14,16 @@ module _ {X : Type 0} where
   other_choice false put held target differs is = is
 
   -- what is under a number after an entry was put under another, or the same
-  pub get-put : (entries : FinMap nat_cmp X) (number other : ℕ) (entry : X) → map.get (map.insert entries number entry) other ≡ cond (nat_eq other number) (Some entry) (map.get entries other)
-  get-put entries number other entry = get-insert nat_cmp_total entries number entry other ∙ ap (λ b. cond b (Some entry) (map.get entries other)) (unsigned_tied other number)
+  pub get-put : (entries : FinMap nat_cmp X) (number other : ℕ) (entry : X)
+      → map.get (map.insert entries number entry) other ≡ cond (nat_eq other number) (Some entry) (map.get entries other)
+  get-put entries number other entry = get-insert nat_cmp_total entries number entry other
+      ∙ ap (λ b. cond b (Some entry) (map.get entries other)) (unsigned_tied other number)
 
   -- what is under a number after an entry was taken out
-  pub get-taken : (entries : FinMap nat_cmp X) (number other : ℕ) → map.get (map.remove entries number) other ≡ cond (nat_eq other number) None (map.get entries other)
-  get-taken entries number other = get-remove nat_cmp_total entries number other ∙ ap (λ b. cond b None (map.get entries other)) (unsigned_tied other number)
+  pub get-taken : (entries : FinMap nat_cmp X) (number other : ℕ)
+      → map.get (map.remove entries number) other ≡ cond (nat_eq other number) None (map.get entries other)
+  get-taken entries number other = get-remove nat_cmp_total entries number other
+      ∙ ap (λ b. cond b None (map.get entries other)) (unsigned_tied other number)
 
   pub get-put_same : (entries : FinMap nat_cmp X) (number : ℕ) (entry : X) → map.get (map.insert entries number entry) number ≡ Some entry
   get-put_same entries number entry = elim (eqb_tells number number) [
@@ -27,7 +31,8 @@ module _ {X : Type 0} where
     | inr other ↦ absurd (other.1 refl)
   ]
 
-  pub get-put_other : (entries : FinMap nat_cmp X) (number other : ℕ) (entry : X) → ¬ (other ≡ number) → map.get (map.insert entries number entry) other ≡ map.get entries other
+  pub get-put_other : (entries : FinMap nat_cmp X) (number other : ℕ) (entry : X) → ¬ (other ≡ number)
+      → map.get (map.insert entries number entry) other ≡ map.get entries other
   get-put_other entries number other entry differ = elim (eqb_tells other number) [
     | inl same ↦ absurd (differ same.1)
     | inr apart ↦ get-put entries number other entry ∙ ap (λ b. cond b (Some entry) (map.get entries other)) apart.0
@@ -39,21 +44,24 @@ module _ {X : Type 0} where
     | inr other ↦ absurd (other.1 refl)
   ]
 
-  pub get-taken_other : (entries : FinMap nat_cmp X) (number other : ℕ) → ¬ (other ≡ number) → map.get (map.remove entries number) other ≡ map.get entries other
+  pub get-taken_other : (entries : FinMap nat_cmp X) (number other : ℕ) → ¬ (other ≡ number)
+      → map.get (map.remove entries number) other ≡ map.get entries other
   get-taken_other entries number other differ = elim (eqb_tells other number) [
     | inl same ↦ absurd (differ same.1)
     | inr apart ↦ get-taken entries number other ∙ ap (λ b. cond b None (map.get entries other)) apart.0
   ]
 
   -- where an entry is, after one was put: it is that one, or it was there
-  pub some_after_put : (entries : FinMap nat_cmp X) (number other : ℕ) (entry : X) → IsSome (map.get (map.insert entries number entry) other) → (other ≡ number) ⊎ IsSome (map.get entries other)
+  pub some_after_put : (entries : FinMap nat_cmp X) (number other : ℕ) (entry : X)
+      → IsSome (map.get (map.insert entries number entry) other) → (other ≡ number) ⊎ IsSome (map.get entries other)
   some_after_put entries number other entry some = elim (eqb_tells other number) [
     | inl same ↦ inl same.1
     | inr apart ↦ inr (subst IsSome (get-put_other entries number other entry apart.1) some)
   ]
 
   -- where an entry is, after one was taken out, it was there
-  pub some_after_taken : (entries : FinMap nat_cmp X) (number other : ℕ) → IsSome (map.get (map.remove entries number) other) → IsSome (map.get entries other)
+  pub some_after_taken : (entries : FinMap nat_cmp X) (number other : ℕ) → IsSome (map.get (map.remove entries number) other)
+      → IsSome (map.get entries other)
   some_after_taken entries number other some = elim (eqb_tells other number) [
     | inl same ↦ absurd (no_some _ (get-taken entries number other ∙ ap (λ b. cond b None (map.get entries other)) same.0) some)
     | inr apart ↦ subst IsSome (get-taken_other entries number other apart.1) some

@@ -12,27 +12,33 @@ module _ (user : List ℕ) (removing : Bool) (table : JobTable) where
   check_at number = row_check user removing number (live_row table number)
 
   -- a number that is not refused leaves the decision to those after it
-  go_on : (number : ℕ) (later : List ℕ) → check_at number ≡ None → jobs_check user removing table (number ∷ later) ≡ jobs_check user removing table later
+  go_on : (number : ℕ) (later : List ℕ) → check_at number ≡ None
+      → jobs_check user removing table (number ∷ later) ≡ jobs_check user removing table later
   go_on number later is = rw is refl
 
   -- and one that is refused decides
-  decide : (number : ℕ) (later : List ℕ) (refusal : Refusal) → check_at number ≡ Some refusal → jobs_check user removing table (number ∷ later) ≡ Some refusal
+  decide : (number : ℕ) (later : List ℕ) (refusal : Refusal) → check_at number ≡ Some refusal
+      → jobs_check user removing table (number ∷ later) ≡ Some refusal
   decide number later refusal is = rw is refl
 
   -- the numbers from a place on begin with that at the place
   from_place : (numbers : List ℕ) (place : ℕ) → place < length numbers →
-      jobs_check user removing table (drop place numbers) ≡ jobs_check user removing table (get_or numbers place 0 ∷ drop (place + 1) numbers)
+      jobs_check user removing table (drop place numbers)
+      ≡ jobs_check user removing table (get_or numbers place 0 ∷ drop (place + 1) numbers)
   from_place numbers place inside =
       let prefix : drop place numbers ≡ get_or numbers place 0 ∷ drop (place + 1) numbers = rw add-one (drop-cons numbers place 0 inside) in
       ap (jobs_check user removing table) prefix
 
   pub step_on : (numbers : List ℕ) (place : ℕ) → place < length numbers →
-      jobs_check user removing table numbers ≡ jobs_check user removing table (drop place numbers) → check_at (get_or numbers place 0) ≡ None →
+      jobs_check user removing table numbers ≡ jobs_check user removing table (drop place numbers)
+      → check_at (get_or numbers place 0) ≡ None →
       jobs_check user removing table numbers ≡ jobs_check user removing table (drop (place + 1) numbers)
-  step_on numbers place inside before is = before ∙ from_place numbers place inside ∙ go_on (get_or numbers place 0) (drop (place + 1) numbers) is
+  step_on numbers place inside before is = before ∙ from_place numbers place inside
+      ∙ go_on (get_or numbers place 0) (drop (place + 1) numbers) is
 
   pub stop_at : (numbers : List ℕ) (place : ℕ) (answer : Option Refusal) → place < length numbers →
-      jobs_check user removing table numbers ≡ jobs_check user removing table (drop place numbers) → answer ≡ check_at (get_or numbers place 0) →
+      jobs_check user removing table numbers ≡ jobs_check user removing table (drop place numbers)
+      → answer ≡ check_at (get_or numbers place 0) →
       is_some answer ≡ true → answer ≡ jobs_check user removing table numbers
   stop_at numbers place (Some refusal) inside before is some =
       sym (before ∙ from_place numbers place inside ∙ decide (get_or numbers place 0) (drop (place + 1) numbers) refusal (sym is))

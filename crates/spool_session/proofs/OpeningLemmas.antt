@@ -32,11 +32,14 @@ module _ (tells : Bool) (user : List ℕ) (allow deny : Option (List ℕ)) (old 
   changed known = subst (λ (from : World). ChangesFiles (ShowsAsBefore from.now.directory) from new) (looks known) (changes known)
 
   -- no store was recovered
-  pub unrecovered : (fault : StoreFault) → IsReadingFault fault → (tells ≡ true → Recovered middle.now.directory new.now.directory (Err fault)) →
+  pub unrecovered : (fault : StoreFault) → IsReadingFault fault
+      → (tells ≡ true → Recovered middle.now.directory new.now.directory (Err fault)) →
       (tells ≡ true → IfDamaged {T = Kept} store.Damaged (λ damage. reading new ≡ reading middle) (Err fault)) →
       IsNotOpened tells user old new (cause_of fault)
-  unrecovered store.FileFault of_reading recovered untouched = faults allow deny permits lists (λ known. recoveries_begin_nothing old new (changed known))
-  unrecovered store.Memory of_reading recovered untouched = lacks_memory allow deny permits lists (λ known. recoveries_begin_nothing old new (changed known))
+  unrecovered store.FileFault of_reading recovered untouched =
+      faults allow deny permits lists (λ known. recoveries_begin_nothing old new (changed known))
+  unrecovered store.Memory of_reading recovered untouched =
+      lacks_memory allow deny permits lists (λ known. recoveries_begin_nothing old new (changed known))
   unrecovered (store.Damaged damage) of_reading recovered untouched =
       is_damaged damage allow deny permits lists (λ known. record {
         shown = sym (ap (λ (world : World). shown_by (reading world)) (looks known)) ∙ recovered known;

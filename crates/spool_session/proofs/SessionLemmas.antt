@@ -44,7 +44,8 @@ never_before_lock : {T : Type 0} (result : Result T CommandError) → IfErr resu
 never_before_lock (Ok value) comes stops = stops
 never_before_lock (Err stopped) comes stops = never_before_lock_by stopped.cause comes stops
 
-module _ {H F T : Type 0} (g : Ghosts H) (calls : Calls H F (Result T CommandError)) (work left : F) (old new : H) (result : Result T CommandError)
+module _ {H F T : Type 0} (g : Ghosts H) (calls : Calls H F (Result T CommandError)) (work left : F) (old new : H)
+    (result : Result T CommandError)
     (is_work : IsWork g calls work) (done : IsDoneInside g calls work left old new result) where
   abbrev works : WorksInside g done.first done.last result
   works = is_work done.first done.last left result done.begun.inside done.did
@@ -66,7 +67,8 @@ module _ {H F T : Type 0} (g : Ghosts H) (calls : Calls H F (Result T CommandErr
   pub risen_done : HasRisenIn g old new (cause_in result)
   risen_done = record {
     file_fault = λ is.
-        rose_within (g.session old).file_faults (g.session done.first).file_faults (g.session done.last).file_faults (g.session new).file_faults
+        rose_within (g.session old).file_faults (g.session done.first).file_faults (g.session done.last).file_faults
+        (g.session new).file_faults
         done.begun.counts.file_faults done.over.counts.file_faults (works.inside.cause.rose (failed result is));
     busy = λ is. absurd (never_busy result works.comes is);
     before_lock = λ stops. absurd (never_before_lock result works.comes stops);
@@ -77,6 +79,8 @@ module _ {H F : Type 0} (g : Ghosts H) (work left : F) (old new : H) where
   quiet_undone fault undone = record { left = undone.refused.left; goes_on = undone.refused.quiet.goes_on }
 
   pub risen_undone : (fault : EnterFault) → IsWorkUndone g work left old new fault → HasRisenIn g old new (cause_of_entry fault)
-  risen_undone Taken undone = record { file_fault = λ is. (cc); busy = λ is. undone.refused.taken refl; before_lock = λ stops. absurd stops }
-  risen_undone Failed undone = record { file_fault = λ is. undone.refused.failed refl; busy = λ is. (cc); before_lock = λ stops. absurd stops }
+  risen_undone Taken undone =
+      record { file_fault = λ is. (cc); busy = λ is. undone.refused.taken refl; before_lock = λ stops. absurd stops }
+  risen_undone Failed undone =
+      record { file_fault = λ is. undone.refused.failed refl; busy = λ is. (cc); before_lock = λ stops. absurd stops }
   risen_undone NoMemory undone = record { file_fault = λ is. (cc); busy = λ is. (cc); before_lock = λ stops. absurd stops }

@@ -17,9 +17,11 @@ pub last_read : (files : Files) (table : JobTable) → ShowsByName files table �
 last_read files table shows = last_given (map.get files sequence_file) table.last shows.last
 
 -- and so do the marks
-pub journal_read : (files : Files) (table : JobTable) (shows : ShowsByName files table) → journal_in table.last (map.get files journal_file) ≡ Ok shows.read
+pub journal_read : (files : Files) (table : JobTable) (shows : ShowsByName files table)
+    → journal_in table.last (map.get files journal_file) ≡ Ok shows.read
 journal_read files table shows = (journals_are_given table.last (map.get files journal_file) shows.read).1 shows.journal
 
 -- and back: a journal that was read gives what was read
-pub read_gives_journal : (last : ℕ) (content : Option (List ℕ)) (read : JournalRead) → journal_in last content ≡ Ok read → GivesJournal last content read
+pub read_gives_journal : (last : ℕ) (content : Option (List ℕ)) (read : JournalRead) → journal_in last content ≡ Ok read
+    → GivesJournal last content read
 read_gives_journal last content read = (journals_are_given last content read).0

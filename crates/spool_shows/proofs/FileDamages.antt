@@ -40,7 +40,8 @@ one_place bytes one other is same = elim (nat_order one other) [
     by_test true is = inl (grind (arith, nat_tests))
     by_test false is = inr (grind (arith, nat_tests))
 
-header_given : (bytes : List ℕ) (place : ℕ) (found : Option (List ℕ × Bool)) → header_in bytes ≡ found → header_fault_in bytes found ≡ Some place → IsHeaderFault bytes place
+header_given : (bytes : List ℕ) (place : ℕ) (found : Option (List ℕ × Bool)) → header_in bytes ≡ found
+    → header_fault_in bytes found ≡ Some place → IsHeaderFault bytes place
 header_given bytes place None none is =
     let same : header_place bytes ≡ place = cc in
     subst (IsHeaderFault bytes) same (header_place-fault bytes ((header_in-none bytes).0 none))
@@ -73,7 +74,8 @@ all_left marks files = record {
   order = files_in_order marks files;
 }
 
-module _ (last : ℕ) (marks : List Mark) (files : Files) (seen : List JobFile) (file : JobFile) (later : List JobFile) (left : AreLeft marks files seen (file ∷ later)) where
+module _ (last : ℕ) (marks : List Mark) (files : Files) (seen : List JobFile) (file : JobFile) (later : List JobFile)
+    (left : AreLeft marks files seen (file ∷ later)) where
   one_more : AreLeft marks files (file ∷ seen) later
   one_more = record {
     has = λ other is. elim (left.has other is) [
@@ -113,8 +115,10 @@ module _ (last : ℕ) (marks : List Mark) (files : Files) (seen : List JobFile) 
 
   known_second : list_any (λ number. number == file.job.number) (numbers_of seen) ≡ true → IsSecond marks files file
   known_second known =
-      let number : (number : ℕ) × Has (numbers_of seen) number × ((number == file.job.number) ≡ true) = one_passes (λ number. number == file.job.number) (numbers_of seen) known in
-      let other : (other : JobFile) × Has seen other × (other.job.number ≡ number.0) = made_has (λ (of : JobFile). of.job.number) seen number.0 number.1 in
+      let number : (number : ℕ) × Has (numbers_of seen) number × ((number == file.job.number) ≡ true) =
+      one_passes (λ number. number == file.job.number) (numbers_of seen) known in
+      let other : (other : JobFile) × Has seen other × (other.job.number ≡ number.0) =
+      made_has (λ (of : JobFile). of.job.number) seen number.0 number.1 in
       record {
         first = other.0;
         is = left.seen_is other.0 other.1;
@@ -124,7 +128,8 @@ module _ (last : ℕ) (marks : List Mark) (files : Files) (seen : List JobFile) 
 
   second_not : ¬ (IsSecond marks files file) → list_any (λ number. number == file.job.number) (numbers_of seen) ≡ false
   second_not not = by_test (list_any (λ number. number == file.job.number) (numbers_of seen)) refl where
-    by_test : (b : Bool) → list_any (λ number. number == file.job.number) (numbers_of seen) ≡ b → list_any (λ number. number == file.job.number) (numbers_of seen) ≡ false
+    by_test : (b : Bool) → list_any (λ number. number == file.job.number) (numbers_of seen) ≡ b
+        → list_any (λ number. number == file.job.number) (numbers_of seen) ≡ false
     by_test true is = absurd (not (known_second is))
     by_test false is = is
 
@@ -134,7 +139,8 @@ module _ (last : ℕ) (marks : List Mark) (files : Files) (seen : List JobFile) 
   -- a file without a place of damage has none
   undamaged : file_place last (numbers_of seen) file ≡ None → IsUndamaged last marks files file
   undamaged none =
-      let both : IsWholeFile last file × (list_any (λ number. number == file.job.number) (numbers_of seen) ≡ false) = no_fault last (numbers_of seen) file none in
+      let both : IsWholeFile last file × (list_any (λ number. number == file.job.number) (numbers_of seen) ≡ false) =
+      no_fault last (numbers_of seen) file none in
       record { whole = both.0; only = not_second both.1 }
 
   no_place_of : IsUndamaged last marks files file → file_place last (numbers_of seen) file ≡ None
@@ -143,45 +149,62 @@ module _ (last : ℕ) (marks : List Mark) (files : Files) (seen : List JobFile) 
   -- one with a place of damage is damaged there
   damaged : (place : ℕ) → file_place last (numbers_of seen) file ≡ Some place → IsDamagedAt last marks files file place
   damaged place is = by_last (nat_lt last file.job.number) refl where
-    by_place : (first : Bool) → (nat_lt last file.job.number || list_any (λ number. number == file.job.number) (numbers_of seen)) ≡ first → (if first then Some 0 else header_fault_in file.bytes (header_in file.bytes)) ≡ Some place
+    by_place : (first : Bool) → (nat_lt last file.job.number || list_any (λ number. number == file.job.number) (numbers_of seen)) ≡ first
+        → (if first then Some 0 else header_fault_in file.bytes (header_in file.bytes)) ≡ Some place
     by_place first test = sym (ap (λ b. if b then Some 0 else header_fault_in file.bytes (header_in file.bytes)) test) ∙ is
 
-    by_twin : (twin : Bool) → list_any (λ number. number == file.job.number) (numbers_of seen) ≡ twin → nat_lt last file.job.number ≡ false → IsDamagedAt last marks files file place
+    by_twin : (twin : Bool) → list_any (λ number. number == file.job.number) (numbers_of seen) ≡ twin → nat_lt last file.job.number ≡ false
+        → IsDamagedAt last marks files file place
     by_twin true twin drawn =
-        let at : ◌≡◌ {A = Option ℕ} (Some 0) (Some place) = by_place true (ap (λ b. b || list_any (λ number. number == file.job.number) (numbers_of seen)) drawn ∙ twin) in
+        let at : ◌≡◌ {A = Option ℕ} (Some 0) (Some place) =
+        by_place true (ap (λ b. b || list_any (λ number. number == file.job.number) (numbers_of seen)) drawn ∙ twin) in
         second (known_second twin) cc
     by_twin false none drawn =
         no_header (grind (arith, nat_tests)) (not_second none)
-        (header_given file.bytes place (header_in file.bytes) refl (by_place false (ap (λ b. b || list_any (λ number. number == file.job.number) (numbers_of seen)) drawn ∙ none)))
+        (header_given file.bytes place (header_in file.bytes) refl
+        (by_place false (ap (λ b. b || list_any (λ number. number == file.job.number) (numbers_of seen)) drawn ∙ none)))
 
     by_last : (late : Bool) → nat_lt last file.job.number ≡ late → IsDamagedAt last marks files file place
     by_last true late =
-        let at : ◌≡◌ {A = Option ℕ} (Some 0) (Some place) = by_place true (ap (λ b. b || list_any (λ number. number == file.job.number) (numbers_of seen)) late) in
+        let at : ◌≡◌ {A = Option ℕ} (Some 0) (Some place) =
+        by_place true (ap (λ b. b || list_any (λ number. number == file.job.number) (numbers_of seen)) late) in
         not_drawn (grind (arith, nat_tests)) cc
     by_last false drawn = by_twin (list_any (λ number. number == file.job.number) (numbers_of seen)) refl drawn
 
   place_of : (place : ℕ) → IsDamagedAt last marks files file place → file_place last (numbers_of seen) file ≡ Some place
   place_of place (not_drawn late at) =
       let test : nat_lt last file.job.number ≡ true = grind (arith, nat_tests) in
-      ap (λ b. if (b || list_any (λ number. number == file.job.number) (numbers_of seen)) then Some 0 else header_fault_in file.bytes (header_in file.bytes)) test ∙ ap Some (sym at)
+      ap (λ b. if (b || list_any (λ number. number == file.job.number) (numbers_of seen)) then Some 0 else header_fault_in file.bytes
+      (header_in file.bytes)) test ∙ ap Some (sym at)
   place_of place (second is at) =
       ap (λ b. if (nat_lt last file.job.number || b) then Some 0 else header_fault_in file.bytes (header_in file.bytes)) (second_known is)
-      ∙ ap (λ b. if b then Some 0 else header_fault_in file.bytes (header_in file.bytes)) (or_true (nat_lt last file.job.number)) ∙ ap Some (sym at)
+      ∙ ap (λ b. if b then Some 0 else header_fault_in file.bytes (header_in file.bytes)) (or_true (nat_lt last file.job.number))
+      ∙ ap Some (sym at)
   place_of place (no_header drawn only fault) =
       let test : nat_lt last file.job.number ≡ false = grind (arith, nat_tests) in
-      ap (λ b. if (b || list_any (λ number. number == file.job.number) (numbers_of seen)) then Some 0 else header_fault_in file.bytes (header_in file.bytes)) test
-      ∙ ap (λ b. if b then Some 0 else header_fault_in file.bytes (header_in file.bytes)) (second_not only) ∙ header_known file.bytes place fault
+      ap (λ b. if (b || list_any (λ number. number == file.job.number) (numbers_of seen)) then Some 0 else header_fault_in file.bytes
+      (header_in file.bytes)) test
+      ∙ ap (λ b. if b then Some 0 else header_fault_in file.bytes (header_in file.bytes)) (second_not only)
+      ∙ header_known file.bytes place fault
 
 -- the first damage that is computed is that of the first damaged file
-files_first : (last : ℕ) (marks : List Mark) (files : Files) (seen rest : List JobFile) (damage : Damage) → AreLeft marks files seen rest → ((file : JobFile) → Has seen file → IsUndamaged last marks files file) → files_damage last (numbers_of seen) rest ≡ Some damage → IsFileDamage last marks files damage
+files_first : (last : ℕ) (marks : List Mark) (files : Files) (seen rest : List JobFile) (damage : Damage) → AreLeft marks files seen rest
+    → ((file : JobFile) → Has seen file → IsUndamaged last marks files file) → files_damage last (numbers_of seen) rest ≡ Some damage
+    → IsFileDamage last marks files damage
 files_first last marks files seen [] damage left fine is = let impossible : None ≡ Some damage = is in cc
 files_first last marks files seen (file ∷ later) damage left fine is =
     by_place (file_place last (numbers_of seen) file) refl
     (λ here. files_first last marks files (file ∷ seen) later damage (one_more last marks files seen file later left)
-    (λ other has. elim has [ inl same ↦ subst (IsUndamaged last marks files) same (undamaged last marks files seen file later left here) | inr before ↦ fine other before ])) where
-      by_place : (found : Option ℕ) → file_place last (numbers_of seen) file ≡ found → (file_place last (numbers_of seen) file ≡ None → files_damage last (file.job.number ∷ numbers_of seen) later ≡ Some damage → IsFileDamage last marks files damage) → IsFileDamage last marks files damage
+    (λ other has. elim has [
+      | inl same ↦ subst (IsUndamaged last marks files) same (undamaged last marks files seen file later left here)
+      | inr before ↦ fine other before
+    ])) where
+      by_place : (found : Option ℕ) → file_place last (numbers_of seen) file ≡ found → (file_place last (numbers_of seen) file ≡ None
+          → files_damage last (file.job.number ∷ numbers_of seen) later ≡ Some damage → IsFileDamage last marks files damage)
+          → IsFileDamage last marks files damage
       by_place (Some place) found go =
-          let whole : ◌≡◌ {A = Option Damage} (Some (damage_at file.name file.bytes place)) (Some damage) = sym (ap (λ o. option_or (damage_of file o) (files_damage last (file.job.number ∷ numbers_of seen) later)) found) ∙ is in
+          let whole : ◌≡◌ {A = Option Damage} (Some (damage_at file.name file.bytes place)) (Some damage) =
+          sym (ap (λ o. option_or (damage_of file o) (files_damage last (file.job.number ∷ numbers_of seen) later)) found) ∙ is in
           let same : damage_at file.name file.bytes place ≡ damage = cc in
           record {
             file = file;
@@ -191,52 +214,74 @@ files_first last marks files seen (file ∷ later) damage left fine is =
             damaged = damaged last marks files seen file later left place found;
             damage_is = sym same;
           }
-      by_place None none go = go none (sym (ap (λ o. option_or (damage_of file o) (files_damage last (file.job.number ∷ numbers_of seen) later)) none) ∙ is)
+      by_place None none go =
+          go none (sym (ap (λ o. option_or (damage_of file o) (files_damage last (file.job.number ∷ numbers_of seen) later)) none) ∙ is)
 
 -- the damage of the first damaged file is the first that is computed
-files_found : (last : ℕ) (marks : List Mark) (files : Files) (seen rest : List JobFile) (damage : Damage) → AreLeft marks files seen rest → (is : IsFileDamage last marks files damage) → Has rest is.file → files_damage last (numbers_of seen) rest ≡ Some damage
+files_found : (last : ℕ) (marks : List Mark) (files : Files) (seen rest : List JobFile) (damage : Damage) → AreLeft marks files seen rest
+    → (is : IsFileDamage last marks files damage) → Has rest is.file → files_damage last (numbers_of seen) rest ≡ Some damage
 files_found last marks files seen [] damage left is has = absurd has
 files_found last marks files seen (file ∷ later) damage left is (inl same) =
-    let here : IsDamagedAt last marks files file is.place = subst (λ (of : JobFile). IsDamagedAt last marks files of is.place) (sym same) is.damaged in
-    ap (λ o. option_or (damage_of file o) (files_damage last (file.job.number ∷ numbers_of seen) later)) (place_of last marks files seen file later left is.place here)
+    let here : IsDamagedAt last marks files file is.place =
+    subst (λ (of : JobFile). IsDamagedAt last marks files of is.place) (sym same) is.damaged in
+    ap (λ o. option_or (damage_of file o) (files_damage last (file.job.number ∷ numbers_of seen) later))
+    (place_of last marks files seen file later left is.place here)
     ∙ ap (λ (of : JobFile). Some (damage_at of.name of.bytes is.place)) same ∙ ap Some (sym is.damage_is)
 files_found last marks files seen (file ∷ later) damage left is (inr has) =
-    let fine : IsUndamaged last marks files file = is.earlier file (is_file last marks files seen file later left) (left.order.0 is.file has) in
-    ap (λ o. option_or (damage_of file o) (files_damage last (file.job.number ∷ numbers_of seen) later)) (no_place_of last marks files seen file later left fine)
+    let fine : IsUndamaged last marks files file =
+    is.earlier file (is_file last marks files seen file later left) (left.order.0 is.file has) in
+    ap (λ o. option_or (damage_of file o) (files_damage last (file.job.number ∷ numbers_of seen) later))
+    (no_place_of last marks files seen file later left fine)
     ∙ files_found last marks files (file ∷ seen) later damage (one_more last marks files seen file later left) is has
 
 -- files are undamaged exactly where no damage is computed
-files_fine : (last : ℕ) (marks : List Mark) (files : Files) (seen rest : List JobFile) → AreLeft marks files seen rest → files_damage last (numbers_of seen) rest ≡ None → (file : JobFile) → Has rest file → IsUndamaged last marks files file
+files_fine : (last : ℕ) (marks : List Mark) (files : Files) (seen rest : List JobFile) → AreLeft marks files seen rest
+    → files_damage last (numbers_of seen) rest ≡ None → (file : JobFile) → Has rest file → IsUndamaged last marks files file
 files_fine last marks files seen [] left none file has = absurd has
 files_fine last marks files seen (first_file ∷ later) left none file has =
-    let both : (damage_of first_file (file_place last (numbers_of seen) first_file) ≡ None) × (files_damage last (first_file.job.number ∷ numbers_of seen) later ≡ None) = neither_first _ _ none in
+    let both : (damage_of first_file (file_place last (numbers_of seen) first_file) ≡ None)
+    × (files_damage last (first_file.job.number ∷ numbers_of seen) later ≡ None) = neither_first _ _ none in
     elim has [
-      | inl same ↦ subst (IsUndamaged last marks files) same (undamaged last marks files seen first_file later left (no_place first_file _ both.0))
-      | inr after ↦ files_fine last marks files (first_file ∷ seen) later (one_more last marks files seen first_file later left) both.1 file after
+      | inl same ↦
+          subst (IsUndamaged last marks files) same (undamaged last marks files seen first_file later left (no_place first_file _ both.0))
+      | inr after ↦
+          files_fine last marks files (first_file ∷ seen) later (one_more last marks files seen first_file later left) both.1 file after
     ]
 
-fine_files : (last : ℕ) (marks : List Mark) (files : Files) (seen rest : List JobFile) → AreLeft marks files seen rest → ((file : JobFile) → Has rest file → IsUndamaged last marks files file) → files_damage last (numbers_of seen) rest ≡ None
+fine_files : (last : ℕ) (marks : List Mark) (files : Files) (seen rest : List JobFile) → AreLeft marks files seen rest
+    → ((file : JobFile) → Has rest file → IsUndamaged last marks files file) → files_damage last (numbers_of seen) rest ≡ None
 fine_files last marks files seen [] left fine = refl
 fine_files last marks files seen (file ∷ later) left fine =
-    ap (λ o. option_or (damage_of file o) (files_damage last (file.job.number ∷ numbers_of seen) later)) (no_place_of last marks files seen file later left (fine file (inl refl)))
+    ap (λ o. option_or (damage_of file o) (files_damage last (file.job.number ∷ numbers_of seen) later))
+    (no_place_of last marks files seen file later left (fine file (inl refl)))
     ∙ fine_files last marks files (file ∷ seen) later (one_more last marks files seen file later left) (λ other has. fine other (inr has))
 
 -- Of the whole directory.
 
-pub first_file : (last : ℕ) (marks : List Mark) (files : Files) (damage : Damage) → files_damage last [] (files_that_count marks files) ≡ Some damage → IsFileDamage last marks files damage
-first_file last marks files damage is = files_first last marks files [] (files_that_count marks files) damage (all_left marks files) (λ file none. absurd none) is
+pub first_file : (last : ℕ) (marks : List Mark) (files : Files) (damage : Damage)
+    → files_damage last [] (files_that_count marks files) ≡ Some damage → IsFileDamage last marks files damage
+first_file last marks files damage is =
+    files_first last marks files [] (files_that_count marks files) damage (all_left marks files) (λ file none. absurd none) is
 
-pub file_first : (last : ℕ) (marks : List Mark) (files : Files) (damage : Damage) → IsFileDamage last marks files damage → files_damage last [] (files_that_count marks files) ≡ Some damage
-file_first last marks files damage is = files_found last marks files [] (files_that_count marks files) damage (all_left marks files) is (file_is_counted marks files is.file is.is)
+pub file_first : (last : ℕ) (marks : List Mark) (files : Files) (damage : Damage) → IsFileDamage last marks files damage
+    → files_damage last [] (files_that_count marks files) ≡ Some damage
+file_first last marks files damage is = files_found last marks files [] (files_that_count marks files) damage (all_left marks files) is
+    (file_is_counted marks files is.file is.is)
 
-pub all_undamaged : (last : ℕ) (marks : List Mark) (files : Files) → files_damage last [] (files_that_count marks files) ≡ None → (file : JobFile) → IsJobFile marks files file → IsUndamaged last marks files file
-all_undamaged last marks files none file is = files_fine last marks files [] (files_that_count marks files) (all_left marks files) none file (file_is_counted marks files file is)
+pub all_undamaged : (last : ℕ) (marks : List Mark) (files : Files) → files_damage last [] (files_that_count marks files) ≡ None
+    → (file : JobFile) → IsJobFile marks files file → IsUndamaged last marks files file
+all_undamaged last marks files none file is =
+    files_fine last marks files [] (files_that_count marks files) (all_left marks files) none file (file_is_counted marks files file is)
 
-pub undamaged_all : (last : ℕ) (marks : List Mark) (files : Files) → ((file : JobFile) → IsJobFile marks files file → IsUndamaged last marks files file) → files_damage last [] (files_that_count marks files) ≡ None
-undamaged_all last marks files fine = fine_files last marks files [] (files_that_count marks files) (all_left marks files) (λ file has. fine file (counted_is_file marks files file has))
+pub undamaged_all : (last : ℕ) (marks : List Mark) (files : Files) → ((file : JobFile) → IsJobFile marks files file
+    → IsUndamaged last marks files file) → files_damage last [] (files_that_count marks files) ≡ None
+undamaged_all last marks files fine = fine_files last marks files [] (files_that_count marks files) (all_left marks files)
+    (λ file has. fine file (counted_is_file marks files file has))
 
 -- no number has two undamaged files
-pub undamaged_once : (last : ℕ) (marks : List Mark) (files : Files) → ((file : JobFile) → IsJobFile marks files file → IsUndamaged last marks files file) → (one other : JobFile) → IsJobFile marks files one → IsJobFile marks files other → one.job.number ≡ other.job.number → one ≡ other
+pub undamaged_once : (last : ℕ) (marks : List Mark) (files : Files)
+    → ((file : JobFile) → IsJobFile marks files file → IsUndamaged last marks files file) → (one other : JobFile)
+    → IsJobFile marks files one → IsJobFile marks files other → one.job.number ≡ other.job.number → one ≡ other
 undamaged_once last marks files fine one other is is_other same = elim (compare one other) [
   | is_before less ↦ absurd ((fine other is_other).only (record { first = one; is = is; before = less; same = same }))
   | is_after less ↦ absurd ((fine one is).only (record { first = other; is = is_other; before = less; same = sym same }))

@@ -20,21 +20,27 @@ abbrev pub files_that_count : List Mark → Files → List JobFile
 files_that_count marks files = job_files marks (entries files)
 
 -- the file of a name says what is there
-pub file_says : (name bytes : List ℕ) (named : Option NamedJob) (file : JobFile) → file_named name bytes named ≡ Some file → (file.name ≡ name) × (file.bytes ≡ bytes) × (named ≡ Some file.job)
+pub file_says : (name bytes : List ℕ) (named : Option NamedJob) (file : JobFile) → file_named name bytes named ≡ Some file
+    → (file.name ≡ name) × (file.bytes ≡ bytes) × (named ≡ Some file.job)
 file_says name bytes None file is = let impossible : None ≡ Some file = is in cc
 file_says name bytes (Some job) file is =
     let same : record { name = name; job = job; bytes = bytes } ≡ file = cc in
     (ap (λ (of : JobFile). of.name) (sym same), ap (λ (of : JobFile). of.bytes) (sym same), ap (λ (of : JobFile). Some of.job) same)
 
-undecided_of : (marks : List Mark) (named : Option NamedJob) (job : NamedJob) → named ≡ Some job → counts_as marks named ≡ true → is_decided job.number marks ≡ false
+undecided_of : (marks : List Mark) (named : Option NamedJob) (job : NamedJob) → named ≡ Some job → counts_as marks named ≡ true
+    → is_decided job.number marks ≡ false
 undecided_of marks named job is counted = not-true (is_decided job.number marks) (sym (ap (counts_as marks) is) ∙ counted)
 
 -- a file of the list is there, and counts
-pub counted_is_file : (marks : List Mark) (files : Files) (file : JobFile) → Has (files_that_count marks files) file → IsJobFile marks files file
+pub counted_is_file : (marks : List Mark) (files : Files) (file : JobFile) → Has (files_that_count marks files) file
+    → IsJobFile marks files file
 counted_is_file marks files file has =
-    let entry : (e : List ℕ × List ℕ) × Has (filter (λ (e : List ℕ × List ℕ). counts marks e.0) (entries files)) e × (job_file e ≡ Some file) = given_has job_file _ file has in
-    let holds : Has (entries files) entry.0 × (counts marks entry.0.0 ≡ true) = filtered_has (λ (e : List ℕ × List ℕ). counts marks e.0) (entries files) entry.0 entry.1 in
-    let says : (file.name ≡ entry.0.0) × (file.bytes ≡ entry.0.1) × (job_named entry.0.0 ≡ Some file.job) = file_says entry.0.0 entry.0.1 (job_named entry.0.0) file entry.2 in
+    let entry : (e : List ℕ × List ℕ) × Has (filter (λ (e : List ℕ × List ℕ). counts marks e.0) (entries files)) e
+    × (job_file e ≡ Some file) = given_has job_file _ file has in
+    let holds : Has (entries files) entry.0 × (counts marks entry.0.0 ≡ true) =
+    filtered_has (λ (e : List ℕ × List ℕ). counts marks e.0) (entries files) entry.0 entry.1 in
+    let says : (file.name ≡ entry.0.0) × (file.bytes ≡ entry.0.1) × (job_named entry.0.0 ≡ Some file.job) =
+    file_says entry.0.0 entry.0.1 (job_named entry.0.0) file entry.2 in
     record {
       held = ap (map.get files) says.0 ∙ entry_is_file files entry.0.0 entry.0.1 holds.0 ∙ ap Some (sym says.1);
       named = ap job_named says.0 ∙ says.2;
@@ -42,11 +48,13 @@ counted_is_file marks files file has =
     }
 
 -- a file that exists and counts is in the list
-pub file_is_counted : (marks : List Mark) (files : Files) (file : JobFile) → IsJobFile marks files file → Has (files_that_count marks files) file
+pub file_is_counted : (marks : List Mark) (files : Files) (file : JobFile) → IsJobFile marks files file
+    → Has (files_that_count marks files) file
 file_is_counted marks files file is =
     let counted : counts marks file.name ≡ true = ap (counts_as marks) is.named ∙ ap not is.undecided in
     let entry : Has (filter (λ (e : List ℕ × List ℕ). counts marks e.0) (entries files)) (file.name, file.bytes) =
-    has_filtered (λ (e : List ℕ × List ℕ). counts marks e.0) (entries files) (file.name, file.bytes) (file_is_entry files file.name file.bytes is.held) counted in
+    has_filtered (λ (e : List ℕ × List ℕ). counts marks e.0) (entries files) (file.name, file.bytes)
+    (file_is_entry files file.name file.bytes is.held) counted in
     has_given job_file _ (file.name, file.bytes) file entry (ap (file_named file.name file.bytes) is.named)
 
 -- no two files of the list have one name
@@ -59,7 +67,8 @@ names_apart marks files =
     (apart_sorted name_cmp nat_list_cmp_total (entries files) (entries_sorted files)))
 
 -- files of one name are one
-pub one_file : (marks : List Mark) (files : Files) (first second : JobFile) → IsJobFile marks files first → IsJobFile marks files second → first.name ≡ second.name → first ≡ second
+pub one_file : (marks : List Mark) (files : Files) (first second : JobFile) → IsJobFile marks files first → IsJobFile marks files second
+    → first.name ≡ second.name → first ≡ second
 one_file marks files first second is other same =
     let bytes : Some first.bytes ≡ Some second.bytes = sym is.held ∙ ap (map.get files) same ∙ other.held in
     let jobs : Some first.job ≡ Some second.job = sym is.named ∙ ap job_named same ∙ other.named in

@@ -27,7 +27,8 @@ AreInOrder {X} key (x ∷ later) = ((other : X) → Has later other → name_cmp
 -- sorted entries are in order, and so are those that pass a test, and what each of them gives
 pub order_sorted : {X : Type 0} → (es : List (List ℕ × X)) → T (is_sorted name_cmp es) → AreInOrder (λ (e : List ℕ × X). e.0) es
 order_sorted [] sorted = tt
-order_sorted (first ∷ later) sorted = (λ other has. below name_cmp first.0 later other (left _ _ sorted) has, order_sorted later (right _ _ sorted))
+order_sorted (first ∷ later) sorted =
+    (λ other has. below name_cmp first.0 later other (left _ _ sorted) has, order_sorted later (right _ _ sorted))
 
 pub order_filtered : {X : Type 0} → (key : X → List ℕ) (test : X → Bool) (xs : List X) → AreInOrder key xs → AreInOrder key (filter test xs)
 order_filtered key test [] order = tt
@@ -36,17 +37,22 @@ order_filtered key test (x ∷ later) order = by_test (test x) (order_filtered k
   by_test true rest = (λ other has. order.0 other (filtered_has test later other has).0, rest)
   by_test false rest = rest
 
-pub order_given : {X Y : Type 0} → (key : X → List ℕ) (other_key : Y → List ℕ) (give : X → Option Y) → ((x : X) (y : Y) → give x ≡ Some y → other_key y ≡ key x) → (xs : List X) → AreInOrder key xs → AreInOrder other_key (filter_map give xs)
+pub order_given : {X Y : Type 0} → (key : X → List ℕ) (other_key : Y → List ℕ) (give : X → Option Y) → ((x : X) (y : Y) → give x ≡ Some y
+    → other_key y ≡ key x) → (xs : List X) → AreInOrder key xs → AreInOrder other_key (filter_map give xs)
 order_given key other_key give keeps [] order = tt
-order_given {X = X} {Y = Y} key other_key give keeps (x ∷ later) order = by_given (give x) refl (order_given key other_key give keeps later order.1) where
-  by_given : (given : Option Y) → give x ≡ given → AreInOrder other_key (filter_map give later) → AreInOrder other_key (cons_option given (filter_map give later))
-  by_given None is rest = rest
-  by_given (Some y) is rest = (
-    λ other has.
-        let from : (z : X) × Has later z × (give z ≡ Some other) = given_has give later other has in
-        ap (λ one. name_cmp one (other_key other)) (keeps x y is) ∙ ap (name_cmp (key x)) (keeps from.0 other from.2) ∙ order.0 from.0 from.1,
-    rest,
-  )
+order_given {X = X} {Y = Y} key other_key give keeps (x ∷ later) order =
+    by_given (give x) refl (order_given key other_key give keeps later order.1)
+  where
+    by_given : (given : Option Y) → give x ≡ given → AreInOrder other_key (filter_map give later)
+        → AreInOrder other_key (cons_option given (filter_map give later))
+    by_given None is rest = rest
+    by_given (Some y) is rest = (
+      λ other has.
+          let from : (z : X) × Has later z × (give z ≡ Some other) = given_has give later other has in
+          ap (λ one. name_cmp one (other_key other)) (keeps x y is) ∙ ap (name_cmp (key x)) (keeps from.0 other from.2)
+          ∙ order.0 from.0 from.1,
+      rest,
+    )
 
 pub files_in_order : (marks : List Mark) (files : Files) → AreInOrder (λ (file : JobFile). file.name) (files_that_count marks files)
 files_in_order marks files =

@@ -27,7 +27,8 @@ pub fresh_unnamed : (last number : ℕ) (marks : List Mark) → last < number �
 fresh_unnamed last number [] greater drawn = refl
 fresh_unnamed last number (mark ∷ later) greater drawn =
     let tests : (is_drawn last mark ≡ true) × (are_drawn last later ≡ true) = and_parts (is_drawn last mark) (are_drawn last later) drawn in
-    ap (λ b. b || has_mark_of number later) (mark_unnamed last number mark greater tests.0) ∙ fresh_unnamed last number later greater tests.1
+    ap (λ b. b || has_mark_of number later) (mark_unnamed last number mark greater tests.0)
+    ∙ fresh_unnamed last number later greater tests.1
 
 -- so it is not finished
 pub fresh_undecided : (last number : ℕ) (marks : List Mark) → last < number → are_drawn last marks ≡ true → is_decided number marks ≡ false
@@ -36,7 +37,8 @@ fresh_undecided last number marks greater drawn = (unnamed_none number marks (fr
 -- and not started
 pub fresh_not_started : (last number : ℕ) (marks : List Mark) → last < number → are_drawn last marks ≡ true → started_at number marks ≡ None
 fresh_not_started last number marks greater drawn =
-    none_if (started_at number marks) (sym (started_has_second number marks) ∙ (unnamed_none number marks (fresh_unnamed last number marks greater drawn)).2) where
+    none_if (started_at number marks) (sym (started_has_second number marks)
+    ∙ (unnamed_none number marks (fresh_unnamed last number marks greater drawn)).2) where
       none_if : (second : Option ℤ) → is_some second ≡ false → second ≡ None
       none_if None is = refl
       none_if (Some second) is = cc

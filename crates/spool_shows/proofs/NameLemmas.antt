@@ -32,7 +32,8 @@ pub job_name_differs : (name other : List ℕ) (job : NamedJob) → job_named na
 job_name_differs name other job is none same = let impossible : Some job ≡ None = sym is ∙ ap job_named same ∙ none in cc
 
 -- nor one of two of them
-pub job_name_apart : (first second name : List ℕ) (job : NamedJob) → job_named first ≡ None → job_named second ≡ None → job_named name ≡ Some job → ¬ (IsEither first second name)
+pub job_name_apart : (first second name : List ℕ) (job : NamedJob) → job_named first ≡ None → job_named second ≡ None
+    → job_named name ≡ Some job → ¬ (IsEither first second name)
 job_name_apart first second name job no_first no_second is =
     neither first second name (job_name_differs name first job is no_first) (job_name_differs name second job is no_second)
 
@@ -55,10 +56,12 @@ pub agree_back : (before after : Files) → AgreeOnNames before after → AgreeO
 agree_back before after agree name job named = sym (agree name job named)
 
 -- a file of a job that exists in one exists in the other
-pub is_there : (marks : List Mark) (before after : Files) (file : JobFile) → map.get after file.name ≡ map.get before file.name → IsJobFile marks before file → IsJobFile marks after file
+pub is_there : (marks : List Mark) (before after : Files) (file : JobFile) → map.get after file.name ≡ map.get before file.name
+    → IsJobFile marks before file → IsJobFile marks after file
 is_there marks before after file same is = record { held = same ∙ is.held; named = is.named; undecided = is.undecided }
 
-pub job_file_kept : (marks : List Mark) (before after : Files) → AgreeOnNames before after → (file : JobFile) → IsJobFile marks before file → IsJobFile marks after file
+pub job_file_kept : (marks : List Mark) (before after : Files) → AgreeOnNames before after → (file : JobFile) → IsJobFile marks before file
+    → IsJobFile marks after file
 job_file_kept marks before after agree file is = is_there marks before after file (agree file.name file.job is.named) is
 
 -- the files of the number are the same
@@ -66,26 +69,31 @@ pub record KeepFiles (marks : List Mark) (before after : Files) (number : ℕ) :
   pub forward : (file : JobFile) → file.job.number ≡ number → IsJobFile marks before file → IsJobFile marks after file
   pub backward : (file : JobFile) → file.job.number ≡ number → IsJobFile marks after file → IsJobFile marks before file
 
-pub agreeing_keep : (marks : List Mark) (before after : Files) (number : ℕ) → AgreeOnNames before after → KeepFiles marks before after number
+pub agreeing_keep : (marks : List Mark) (before after : Files) (number : ℕ) → AgreeOnNames before after
+    → KeepFiles marks before after number
 agreeing_keep marks before after number agree = record {
   forward = λ file is_number is. job_file_kept marks before after agree file is;
   backward = λ file is_number is. job_file_kept marks after before (agree_back before after agree) file is;
 }
 
 -- so its entry is the same
-live_kept : (marks : List Mark) (before after : Files) (number : ℕ) (entry : Option JobEntry) → KeepFiles marks before after number → ShowsLive marks before number entry → ShowsLive marks after number entry
+live_kept : (marks : List Mark) (before after : Files) (number : ℕ) (entry : Option JobEntry) → KeepFiles marks before after number
+    → ShowsLive marks before number entry → ShowsLive marks after number entry
 live_kept marks before after number None keep shown = λ file is is_number. shown file (keep.backward file is_number is) is_number
 live_kept marks before after number (Some entry) keep shown =
     (shown.0, keep.forward shown.0 (ap (λ (pair : ℕ × JobEntry). pair.0) shown.2) shown.1, shown.2)
 
-pub entry_kept : (marks : List Mark) (before after : Files) (number : ℕ) (entry : Option JobEntry) → KeepFiles marks before after number → ShowsEntry marks before number entry → ShowsEntry marks after number entry
+pub entry_kept : (marks : List Mark) (before after : Files) (number : ℕ) (entry : Option JobEntry) → KeepFiles marks before after number
+    → ShowsEntry marks before number entry → ShowsEntry marks after number entry
 entry_kept marks before after number entry keep shown = by_test (is_decided number marks) shown where
-  by_test : (decided : Bool) → MatchBool decided (ShowsDone marks number entry) (ShowsLive marks before number entry) → MatchBool decided (ShowsDone marks number entry) (ShowsLive marks after number entry)
+  by_test : (decided : Bool) → MatchBool decided (ShowsDone marks number entry) (ShowsLive marks before number entry)
+      → MatchBool decided (ShowsDone marks number entry) (ShowsLive marks after number entry)
   by_test true done = done
   by_test false live = live_kept marks before after number entry keep live
 
 -- a file of the number, in another directory
-pub has_file_kept : (marks : List Mark) (before after : Files) (number queue : ℕ) → KeepFiles marks before after number → HasFile marks before number queue → HasFile marks after number queue
+pub has_file_kept : (marks : List Mark) (before after : Files) (number queue : ℕ) → KeepFiles marks before after number
+    → HasFile marks before number queue → HasFile marks after number queue
 has_file_kept marks before after number queue keep has = record {
   file = has.file;
   is = keep.forward has.file has.number_is has.is;
@@ -95,14 +103,18 @@ has_file_kept marks before after number queue keep has = record {
 
 -- a file that is whole stays so under a greater last number
 pub whole_more : (last more : ℕ) (file : JobFile) → last ≤ more → IsWholeFile last file → IsWholeFile more file
-whole_more last more file least whole = record { drawn = (let drawn : file.job.number ≤ last = whole.drawn in omega arith); header = whole.header }
+whole_more last more file least whole =
+    record { drawn = (let drawn : file.job.number ≤ last = whole.drawn in omega arith); header = whole.header }
 
 -- files that are sound stay so where directories agree on the names of jobs
-pub sound_kept : (last more : ℕ) (marks : List Mark) (before after : Files) → last ≤ more → AgreeOnNames before after → AreSound last marks before → AreSound more marks after
+pub sound_kept : (last more : ℕ) (marks : List Mark) (before after : Files) → last ≤ more → AgreeOnNames before after
+    → AreSound last marks before → AreSound more marks after
 sound_kept last more marks before after least agree sound =
-    let back : (file : JobFile) → IsJobFile marks after file → IsJobFile marks before file = job_file_kept marks after before (agree_back before after agree) in
+    let back : (file : JobFile) → IsJobFile marks after file
+    → IsJobFile marks before file = job_file_kept marks after before (agree_back before after agree) in
     record {
       each = λ file is. whole_more last more file least (sound.each file (back file is));
       once = λ first second is_first is_second same. sound.once first second (back first is_first) (back second is_second) same;
-      started = λ number queue second started undecided. has_file_kept marks before after number queue (agreeing_keep marks before after number agree) (sound.started number queue second started undecided);
+      started = λ number queue second started undecided. has_file_kept marks before after number queue
+          (agreeing_keep marks before after number agree) (sound.started number queue second started undecided);
     }

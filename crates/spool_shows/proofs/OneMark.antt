@@ -34,11 +34,13 @@ pub ok_same : {X : Type 0} {one other : X} (answer : Result X Damage) → answer
 ok_same answer is also = cc
 
 -- the marks of the journal are those of the table
-pub had_same : (files : Files) (table : JobTable) (marks : List Mark) (shows : ShowsByName files table) → HasMarks files marks → shows.read.marks ≡ marks
+pub had_same : (files : Files) (table : JobTable) (marks : List Mark) (shows : ShowsByName files table) → HasMarks files marks
+    → shows.read.marks ≡ marks
 had_same files table marks shows had =
     let last_is : table.last ≡ had.last = ok_same (last_in (map.get files sequence_file)) (last_read files table shows) had.number in
     let read_is : shows.read ≡ record { marks = marks; free = had.free } =
-    ok_same (journal_in had.last (map.get files journal_file)) (ap (λ last. journal_in last (map.get files journal_file)) (sym last_is) ∙ journal_read files table shows) had.journal in
+    ok_same (journal_in had.last (map.get files journal_file)) (ap (λ last. journal_in last (map.get files journal_file)) (sym last_is)
+    ∙ journal_read files table shows) had.journal in
     ap (λ (read : JournalRead). read.marks) read_is
 
 -- those marks are legal
@@ -51,11 +53,13 @@ sequence_elsewhere (inl same) = let impossible : true ≡ false = ap (λ name. s
 sequence_elsewhere (inr same) = let impossible : true ≡ false = ap (λ name. slice_index name 1 == 83) same in cc
 
 -- so the last number is the same
-pub last_moves : (before after : Files) (last : ℕ) → AgreeElsewhere temporary_file journal_file before after → last_in (map.get before sequence_file) ≡ Ok last → last_in (map.get after sequence_file) ≡ Ok last
+pub last_moves : (before after : Files) (last : ℕ) → AgreeElsewhere temporary_file journal_file before after
+    → last_in (map.get before sequence_file) ≡ Ok last → last_in (map.get after sequence_file) ≡ Ok last
 last_moves before after last others is = ap last_in (others sequence_file sequence_elsewhere) ∙ is
 
 -- what a step does to the table and to the directory, where its mark names this number alone
-pub record IsStepOf (before after : Files) (table : JobTable) (entries : JobEntries) (last_batch : Option ℤ) (added : Mark) (number : ℕ) (marks : List Mark) : Type 0 where
+pub record IsStepOf (before after : Files) (table : JobTable) (entries : JobEntries) (last_batch : Option ℤ) (added : Mark) (number : ℕ)
+    (marks : List Mark) : Type 0 where
   pub batch : last_batch ≡ first_of_two (batch_second added) table.last_batch
   pub unchecked : (other : ℕ) → ¬ (other ≡ number) → is_mark_of other added ≡ false
   pub kept : (other : ℕ) → ¬ (other ≡ number) → map.get entries other ≡ entry_at table other
@@ -63,41 +67,60 @@ pub record IsStepOf (before after : Files) (table : JobTable) (entries : JobEntr
   pub starts : (other queue : ℕ) (second : ℤ) → added ≡ Started other queue second → HasFile marks before other queue
 
 -- the directory is as sound with the mark
-sound_more : (last : ℕ) (before after : Files) (marks : List Mark) (added : Mark) → SameJobs before after → ((other queue : ℕ) (second : ℤ) → added ≡ Started other queue second → HasFile marks before other queue) → AreSound last marks before → AreSound last (marks ++ added ∷ []) after
-sound_more last before after marks added same starts sound = sound_moves last marks (marks ++ added ∷ []) before after (record { files = same; back = back; started = started }) sound where
-  back : (file : JobFile) → IsJobFile (marks ++ added ∷ []) after file → IsJobFile marks before file
-  back file is = file_moves (marks ++ added ∷ []) marks after before (same_back before after same) file is (none_before (decides file.job.number) marks added is.undecided)
+sound_more : (last : ℕ) (before after : Files) (marks : List Mark) (added : Mark) → SameJobs before after
+    → ((other queue : ℕ) (second : ℤ) → added ≡ Started other queue second → HasFile marks before other queue) → AreSound last marks before
+    → AreSound last (marks ++ added ∷ []) after
+sound_more last before after marks added same starts sound =
+    sound_moves last marks (marks ++ added ∷ []) before after (record { files = same; back = back; started = started }) sound
+  where
+    back : (file : JobFile) → IsJobFile (marks ++ added ∷ []) after file → IsJobFile marks before file
+    back file is = file_moves (marks ++ added ∷ []) marks after before (same_back before after same) file is
+        (none_before (decides file.job.number) marks added is.undecided)
 
-  started : (number queue : ℕ) (second : ℤ) → Contains (marks ++ added ∷ []) (Started number queue second) → is_decided number (marks ++ added ∷ []) ≡ false → HasFile marks before number queue
-  started number queue second there undecided = elim (Contains-push_cases marks added (Started number queue second) there) [
-    | inl old ↦ sound.started number queue second old (none_before (decides number) marks added undecided)
-    | inr new ↦ starts number queue second new
-  ]
+    started : (number queue : ℕ) (second : ℤ) → Contains (marks ++ added ∷ []) (Started number queue second)
+        → is_decided number (marks ++ added ∷ []) ≡ false → HasFile marks before number queue
+    started number queue second there undecided = elim (Contains-push_cases marks added (Started number queue second) there) [
+      | inl old ↦ sound.started number queue second old (none_before (decides number) marks added undecided)
+      | inr new ↦ starts number queue second new
+    ]
 
 -- each number has the entry of the table with the step
-entries_more : (before after : Files) (table : JobTable) (entries : JobEntries) (last_batch : Option ℤ) (added : Mark) (number : ℕ) (marks : List Mark) → SameJobs before after → ((other : ℕ) → ShowsEntry marks before other (entry_at table other)) → IsStepOf before after table entries last_batch added number marks → (other : ℕ) → ShowsEntry (marks ++ added ∷ []) after other (map.get entries other)
+entries_more : (before after : Files) (table : JobTable) (entries : JobEntries) (last_batch : Option ℤ) (added : Mark) (number : ℕ)
+    (marks : List Mark) → SameJobs before after → ((other : ℕ) → ShowsEntry marks before other (entry_at table other)) → IsStepOf before
+    after table entries last_batch added number marks → (other : ℕ) → ShowsEntry (marks ++ added ∷ []) after other (map.get entries other)
 entries_more before after table entries last_batch added number marks same shows step other = elim (eqb_tells other number) [
   | inl one ↦ subst (λ n. ShowsEntry (marks ++ added ∷ []) after n (map.get entries n)) (sym one.1) step.here
   | inr apart ↦ subst (ShowsEntry (marks ++ added ∷ []) after other) (sym (step.kept other apart.1))
-      (entry_moves other marks (marks ++ added ∷ []) before after (entry_at table other) same (tell_same other marks (marks ++ added ∷ []) (marks_of_other other marks added (step.unchecked other apart.1))) (shows other))
+      (entry_moves other marks (marks ++ added ∷ []) before after (entry_at table other) same
+      (tell_same other marks (marks ++ added ∷ []) (marks_of_other other marks added (step.unchecked other apart.1))) (shows other))
 ]
 
 -- so the directory shows the table with the step
-pub step_shown : (before after : Files) (table : JobTable) (entries : JobEntries) (last_batch : Option ℤ) (added : Mark) (number : ℕ) (shows : ShowsByName before table) → HasMarked table added before after → IsStepOf before after table entries last_batch added number shows.read.marks → ShowsByName after (table_of table.last entries last_batch)
+pub step_shown : (before after : Files) (table : JobTable) (entries : JobEntries) (last_batch : Option ℤ) (added : Mark) (number : ℕ)
+    (shows : ShowsByName before table) → HasMarked table added before after → IsStepOf before after table entries last_batch added number
+    shows.read.marks → ShowsByName after (table_of table.last entries last_batch)
 step_shown before after table entries last_batch added number shows marked step =
     let marks : List Mark = shows.read.marks in
     let same : SameJobs before after = same_jobs before after marked.others in
     record {
       read = record { marks = marks ++ added ∷ []; free = marked.free };
-      last = last_spelled (map.get after sequence_file) table.last (last_moves before after table.last marked.others (last_read before table shows));
-      journal = read_gives_journal table.last (map.get after journal_file) _ (subst (λ list. journal_in table.last (map.get after journal_file) ≡ Ok (record { marks = list ++ added ∷ []; free = marked.free })) (sym (had_same before table marked.marks shows marked.had)) marked.journal);
+      last = last_spelled (map.get after sequence_file) table.last
+          (last_moves before after table.last marked.others (last_read before table shows));
+      journal = read_gives_journal table.last (map.get after journal_file) _ (subst (λ list.
+          journal_in table.last (map.get after journal_file) ≡ Ok (record { marks = list ++ added ∷ []; free = marked.free }))
+          (sym (had_same before table marked.marks shows marked.had)) marked.journal);
       sound = sound_more table.last before after marks added same step.starts shows.sound;
       batch = step.batch ∙ ap (first_of_two (batch_second added)) shows.batch ∙ sym (batch_more marks added);
       entries = entries_more before after table entries last_batch added number marks same shows.entries step;
     }
 
 -- a mark that decides a number leaves its entry
-pub decided_shown : (marks : List Mark) (files : Files) (added : Mark) (number : ℕ) (fate : Fate) → decides number added ≡ true → is_forgetting number added ≡ false → is_forgotten number marks ≡ false → ((list : List Mark) → is_forgotten number list ≡ false → done_entry list added ≡ Some (number, Done fate)) → ShowsEntry (marks ++ added ∷ []) files number (Some (Done fate))
+pub decided_shown : (marks : List Mark) (files : Files) (added : Mark) (number : ℕ) (fate : Fate) → decides number added ≡ true
+    → is_forgetting number added ≡ false → is_forgotten number marks ≡ false → ((list : List Mark) → is_forgotten number list ≡ false
+    → done_entry list added ≡ Some (number, Done fate)) → ShowsEntry (marks ++ added ∷ []) files number (Some (Done fate))
 decided_shown marks files added number fate decides_it forgets_not remembered leaves =
-    shows_done (marks ++ added ∷ []) files number (Some (Done fate)) (any_with (decides number) marks added decides_it)
-    (added, Contains-push marks added, leaves (marks ++ added ∷ []) (any_without (is_forgetting number) marks added forgets_not ∙ remembered))
+    shows_done (marks ++ added ∷ []) files number (Some (Done fate)) (any_with (decides number) marks added decides_it) (
+      added,
+      Contains-push marks added,
+      leaves (marks ++ added ∷ []) (any_without (is_forgetting number) marks added forgets_not ∙ remembered),
+    )

@@ -35,15 +35,19 @@ module _ (test : List ℕ → Bool) (files : Files) where
   -- each is that of a file, and passes
   pub picked_there : (name : List ℕ) → Contains (filter test (finite.keys files)) name → IsSome (finite.get files name) × (test name ≡ true)
   picked_there name among =
-      let kept : Has (finite.keys files) name × (test name ≡ true) = filtered_has test (finite.keys files) name (has_contained (filter test (finite.keys files)) name among) in
-      let from : (e : List ℕ × List ℕ) × Has (entries files) e × (e.0 ≡ name) = made_has (λ (e : List ℕ × List ℕ). e.0) (entries files) name kept.0 in
+      let kept : Has (finite.keys files) name × (test name ≡ true) =
+      filtered_has test (finite.keys files) name (has_contained (filter test (finite.keys files)) name among) in
+      let from : (e : List ℕ × List ℕ) × Has (entries files) e × (e.0 ≡ name) =
+      made_has (λ (e : List ℕ × List ℕ). e.0) (entries files) name kept.0 in
       (subst (λ at. IsSome (finite.get files at)) from.2 (subst IsSome (sym (entry_is_file files from.0.0 from.0.1 from.1)) refl), kept.1)
 
-  among_held : (name : List ℕ) (held : Option (List ℕ)) → finite.get files name ≡ held → IsSome held → test name ≡ true → Contains (filter test (finite.keys files)) name
+  among_held : (name : List ℕ) (held : Option (List ℕ)) → finite.get files name ≡ held → IsSome held → test name ≡ true
+      → Contains (filter test (finite.keys files)) name
   among_held name None is some passes = absurd (let impossible : false ≡ true = some in cc)
   among_held name (Some bytes) is some passes =
       contained (filter test (finite.keys files)) name
-      (has_filtered test (finite.keys files) name (has_made (λ (e : List ℕ × List ℕ). e.0) (entries files) (name, bytes) (file_is_entry files name bytes is)) passes)
+      (has_filtered test (finite.keys files) name
+      (has_made (λ (e : List ℕ × List ℕ). e.0) (entries files) (name, bytes) (file_is_entry files name bytes is)) passes)
 
   -- and that of each file that passes is among them
   pub picked_among : (name : List ℕ) → IsSome (finite.get files name) → test name ≡ true → Contains (filter test (finite.keys files)) name

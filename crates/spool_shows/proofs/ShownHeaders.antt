@@ -27,7 +27,8 @@ shown_jobs_have_headers files table number job state shows lives =
     subst HasItsHeader live.job_is (its_header live.file.bytes (is.sound.each live.file live.is).header)
 
 -- where none was drawn, no number has an entry
-no_entry : (table : JobTable) → table.last ≡ 0 → ((number : ℕ) → IsSome (entry_at table number) → IsDrawn table number) → (number : ℕ) → entry_at table number ≡ None
+no_entry : (table : JobTable) → table.last ≡ 0 → ((number : ℕ) → IsSome (entry_at table number) → IsDrawn table number) → (number : ℕ)
+    → entry_at table number ≡ None
 no_entry table none drawn number = by_entry (entry_at table number) (drawn number) where
   by_entry : (found : Option JobEntry) → (IsSome found → IsDrawn table number) → found ≡ None
   by_entry None is = refl

@@ -17,11 +17,14 @@ use Rattle.spool_shows.proofs.MarkTests.{TellSame}
 use Rattle.spool_shows.proofs.ShownEntries.{LeavesEntry, SameJobs, done_moves, entry_left, file_moves, live_moves, shows_done, shows_live}
 
 -- where the marks of the number and the files of jobs are the same, its entry is
-pub entry_moves : (number : ℕ) (marks later : List Mark) (one other : Files) (entry : Option JobEntry) → SameJobs one other → TellSame number marks later → ShowsEntry marks one number entry → ShowsEntry later other number entry
+pub entry_moves : (number : ℕ) (marks later : List Mark) (one other : Files) (entry : Option JobEntry) → SameJobs one other
+    → TellSame number marks later → ShowsEntry marks one number entry → ShowsEntry later other number entry
 entry_moves number marks later one other entry files same shows = by_test (is_decided number marks) refl shows where
-  by_test : (decided : Bool) → is_decided number marks ≡ decided → MatchBool decided (ShowsDone marks number entry) (ShowsLive marks one number entry) → ShowsEntry later other number entry
+  by_test : (decided : Bool) → is_decided number marks ≡ decided
+      → MatchBool decided (ShowsDone marks number entry) (ShowsLive marks one number entry) → ShowsEntry later other number entry
   by_test true is done = shows_done later other number entry (same.decided ∙ is) (done_moves number marks later entry same done)
-  by_test false is live = shows_live later other number entry (same.decided ∙ is) (live_moves number marks later one other entry files same is live)
+  by_test false is live =
+      shows_live later other number entry (same.decided ∙ is) (live_moves number marks later one other entry files same is live)
 
 -- the number is not finished, and its file shows this job in this state
 pub record IsLiveBy (marks : List Mark) (files : Files) (number : ℕ) (job : Job) (state : JobState) : Type 0 where
@@ -36,9 +39,11 @@ live_parts : (job other : Job) (state since : JobState) → Live job state ≡ L
 live_parts job other state since same = (cc, cc)
 
 -- the entry of a live job says this
-pub live_known : (marks : List Mark) (files : Files) (number : ℕ) (job : Job) (state : JobState) → ShowsEntry marks files number (Some (Live job state)) → IsLiveBy marks files number job state
+pub live_known : (marks : List Mark) (files : Files) (number : ℕ) (job : Job) (state : JobState)
+    → ShowsEntry marks files number (Some (Live job state)) → IsLiveBy marks files number job state
 live_known marks files number job state shows = by_test (is_decided number marks) refl shows where
-  by_test : (decided : Bool) → is_decided number marks ≡ decided → MatchBool decided (ShowsDone marks number (Some (Live job state))) (ShowsLive marks files number (Some (Live job state))) → IsLiveBy marks files number job state
+  by_test : (decided : Bool) → is_decided number marks ≡ decided → MatchBool decided (ShowsDone marks number (Some (Live job state)))
+      (ShowsLive marks files number (Some (Live job state))) → IsLiveBy marks files number job state
   by_test true is (mark, there, leaves) =
       let left : LeavesEntry marks number (Live job state) mark = entry_left marks number (Live job state) mark leaves in
       let impossible : Live job state ≡ Done left.done.0 = left.done.1 in
@@ -61,12 +66,15 @@ pub record IsDoneBy (marks : List Mark) (number : ℕ) : Type 0 where
   pub remembered : is_forgotten number marks ≡ false
 
 -- the entry of a job that is done says this
-pub done_known : (marks : List Mark) (files : Files) (number : ℕ) (fate : Fate) → ShowsEntry marks files number (Some (Done fate)) → IsDoneBy marks number
+pub done_known : (marks : List Mark) (files : Files) (number : ℕ) (fate : Fate)
+    → ShowsEntry marks files number (Some (Done fate)) → IsDoneBy marks number
 done_known marks files number fate shows = by_test (is_decided number marks) refl shows where
-  by_test : (decided : Bool) → is_decided number marks ≡ decided → MatchBool decided (ShowsDone marks number (Some (Done fate))) (ShowsLive marks files number (Some (Done fate))) → IsDoneBy marks number
+  by_test : (decided : Bool) → is_decided number marks ≡ decided → MatchBool decided (ShowsDone marks number (Some (Done fate)))
+      (ShowsLive marks files number (Some (Done fate))) → IsDoneBy marks number
   by_test true is (mark, there, leaves) = record { decided = is; remembered = (entry_left marks number (Done fate) mark leaves).remembered }
   by_test false is (file, there, shown) =
-      let impossible : Live (job_of file) (state_since (started_at file.job.number marks)) ≡ Done fate = ap (λ (row : ℕ × JobEntry). row.1) shown in
+      let impossible : Live (job_of file) (state_since (started_at file.job.number marks)) ≡ Done fate =
+      ap (λ (row : ℕ × JobEntry). row.1) shown in
       cc
 
 -- what a state says of the start
@@ -84,10 +92,12 @@ started_then (Some other) second is = cc
 pub record KeepsSound (marks later : List Mark) (one other : Files) : Type 0 where
   pub files : SameJobs one other
   pub back : (file : JobFile) → IsJobFile later other file → IsJobFile marks one file
-  pub started : (number queue : ℕ) (second : ℤ) → Contains later (Started number queue second) → is_decided number later ≡ false → HasFile marks one number queue
+  pub started : (number queue : ℕ) (second : ℤ) → Contains later (Started number queue second) → is_decided number later ≡ false
+      → HasFile marks one number queue
 
 -- then the directory is as sound as before
-pub sound_moves : (last : ℕ) (marks later : List Mark) (one other : Files) → KeepsSound marks later one other → AreSound last marks one → AreSound last later other
+pub sound_moves : (last : ℕ) (marks later : List Mark) (one other : Files) → KeepsSound marks later one other → AreSound last marks one
+    → AreSound last later other
 sound_moves last marks later one other keeps sound = record {
   each = λ file is. sound.each file (keeps.back file is);
   once = λ first second is also same. sound.once first second (keeps.back first is) (keeps.back second also) same;

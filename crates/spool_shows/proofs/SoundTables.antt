@@ -33,7 +33,8 @@ few_digits false number fits = omega arith
 
 few_in : (new_form : Bool) (bytes : List ℕ) (number : ℕ) → SpellsIn new_form bytes number → number ≤ LAST_NUMBER
 few_in new_form bytes number spelled =
-    let counted : length (take (number_digits new_form) bytes) ≡ number_digits new_form = length-take-le (number_digits new_form) bytes (omega (arith, spelled.counted)) in
+    let counted : length (take (number_digits new_form) bytes) ≡ number_digits new_form =
+    length-take-le (number_digits new_form) bytes (omega (arith, spelled.counted)) in
     few_digits new_form number (subst (λ count. number < 16 ^ count) counted spelled.digits.fits)
 
 -- and so is the number that a content gives
@@ -45,7 +46,8 @@ few_of (Some bytes) number spelled = few_in spelled.0 bytes number spelled.1
 in_range : (last number other : ℕ) → 1 ≤ other → nat_le other last ≡ true → (other == number) ≡ true → (1 ≤ number) × (number ≤ last)
 in_range last number other some drawn same = (grind (arith, nat_tests), grind (arith, nat_tests))
 
-named_drawn : (last number : ℕ) (mark : Mark) → IsWritable mark → is_drawn last mark ≡ true → is_mark_of number mark ≡ true → (1 ≤ number) × (number ≤ last)
+named_drawn : (last number : ℕ) (mark : Mark) → IsWritable mark → is_drawn last mark ≡ true → is_mark_of number mark ≡ true
+    → (1 ≤ number) × (number ≤ last)
 named_drawn last number (Removed other) writable drawn named = in_range last number other writable drawn named
 named_drawn last number (Started other queue second) writable drawn named = in_range last number other writable.drawn drawn named
 named_drawn last number (Ended other ending) writable drawn named = in_range last number other writable drawn named
@@ -60,12 +62,15 @@ one_of_all test (first ∷ later) mark all (inl same) = ap test (sym same) ∙ (
 one_of_all test (first ∷ later) mark all (inr has) = one_of_all test later mark (and_parts (test first) (list_all test later) all).1 has
 
 -- a number that has an entry was drawn
-entry_drawn : (files : Files) (table : JobTable) (is : ShowsByName files table) (number : ℕ) → IsSome (entry_at table number) → (1 ≤ number) × (number ≤ table.last)
+entry_drawn : (files : Files) (table : JobTable) (is : ShowsByName files table) (number : ℕ) → IsSome (entry_at table number)
+    → (1 ≤ number) × (number ≤ table.last)
 entry_drawn files table is number some = by_entry (entry_at table number) some (is.entries number) where
   by_done : (entry : JobEntry) → ShowsDone is.read.marks number (Some entry) → (1 ≤ number) × (number ≤ table.last)
   by_done entry done =
-      let writable : AreWritable is.read.marks = journal_writable table.last (map.get files journal_file) is.read (journal_read files table is) in
-      let drawn : are_drawn table.last is.read.marks ≡ true = journal_drawn table.last (map.get files journal_file) is.read (journal_read files table is) in
+      let writable : AreWritable is.read.marks =
+      journal_writable table.last (map.get files journal_file) is.read (journal_read files table is) in
+      let drawn : are_drawn table.last is.read.marks ≡ true =
+      journal_drawn table.last (map.get files journal_file) is.read (journal_read files table is) in
       named_drawn table.last number done.0 (subst IsWritable done.1.2 (writable done.1.0 done.0 done.1.1))
       (one_of_all (is_drawn table.last) is.read.marks done.0 drawn (has_contained is.read.marks done.0 done.1))
       (decides_names number done.0 (done_decides is.read.marks done.0 number entry done.2).0)
@@ -79,7 +84,8 @@ entry_drawn files table is number some = by_entry (entry_at table number) some (
   by_entry : (found : Option JobEntry) → IsSome found → ShowsEntry is.read.marks files number found → (1 ≤ number) × (number ≤ table.last)
   by_entry None none shows = let impossible : false ≡ true = none in cc
   by_entry (Some entry) there shows = by_test (is_decided number is.read.marks) shows where
-    by_test : (decided : Bool) → MatchBool decided (ShowsDone is.read.marks number (Some entry)) (ShowsLive is.read.marks files number (Some entry)) → (1 ≤ number) × (number ≤ table.last)
+    by_test : (decided : Bool) → MatchBool decided (ShowsDone is.read.marks number (Some entry))
+        (ShowsLive is.read.marks files number (Some entry)) → (1 ≤ number) × (number ≤ table.last)
     by_test true done = by_done entry done
     by_test false live = by_live entry live
 
@@ -88,5 +94,6 @@ shown_tables_are_sound files table shows =
     let is : ShowsByName files table = (directories_are_shown_by_name files table).by_name shows in
     record {
       few = few_of (map.get files sequence_file) table.last is.last;
-      each = λ number some. let drawn : (1 ≤ number) × (number ≤ table.last) = entry_drawn files table is number some in record { some = drawn.0; drawn = drawn.1 };
+      each = λ number some. let drawn : (1 ≤ number) × (number ≤ table.last) = entry_drawn files table is number some in
+          record { some = drawn.0; drawn = drawn.1 };
     }

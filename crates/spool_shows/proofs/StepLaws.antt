@@ -23,16 +23,21 @@ pub draws_are_shown : DrawsAreShown
 draws_are_shown before after table shows drawn = shown after _ (drawn_by_name before after table (by_name before table shows) drawn)
 
 pub accepts_are_shown : AcceptsAreShown
-accepts_are_shown before after table job shows accepted = shown after _ (accepted_by_name before after table job (by_name before table shows) accepted)
+accepts_are_shown before after table job shows accepted =
+    shown after _ (accepted_by_name before after table job (by_name before table shows) accepted)
 
 pub marks_are_shown : MarksAreShown
-marks_are_shown before after table step added shows legal adds marked = shown after _ (marked_by_name before after table step added (by_name before table shows) legal adds marked)
+marks_are_shown before after table step added shows legal adds marked =
+    shown after _ (marked_by_name before after table step added (by_name before table shows) legal adds marked)
 
 pub legal_steps_add_legal_marks : LegalStepsAddLegalMarks
-legal_steps_add_legal_marks files table step added marks shows has legal adds = legal_marks_by_name files table step added marks (by_name files table shows) has legal adds
+legal_steps_add_legal_marks files table step added marks shows has legal adds =
+    legal_marks_by_name files table step added marks (by_name files table shows) has legal adds
 
 pub compactions_are_shown : CompactionsAreShown
-compactions_are_shown before after table shows compacted = shown after table (compacted_by_name before after table (by_name before table shows) compacted)
+compactions_are_shown before after table shows compacted =
+    shown after table (compacted_by_name before after table (by_name before table shows) compacted)
 
 pub rewrites_are_shown : RewritesAreShown
-rewrites_are_shown before after table shows rewritten = shown after table (rewritten_by_name before after table (by_name before table shows) rewritten)
+rewrites_are_shown before after table shows rewritten =
+    shown after table (rewritten_by_name before after table (by_name before table shows) rewritten)

@@ -20,43 +20,57 @@ use Rattle.spool_shows.proofs.StepMarks.{done_in, live_in}
 
 -- A number that is not finished, not forgotten and not started is named by no mark.
 
-pub unnamed : (number : ℕ) (marks : List Mark) → is_decided number marks ≡ false → is_forgotten number marks ≡ false → started_at number marks ≡ None → has_mark_of number marks ≡ false
+pub unnamed : (number : ℕ) (marks : List Mark) → is_decided number marks ≡ false → is_forgotten number marks ≡ false
+    → started_at number marks ≡ None → has_mark_of number marks ≡ false
 unnamed number marks undecided remembered none =
-    named_by number marks ∙ ap (λ b. b || (is_decided number marks || has_start_of number marks)) remembered ∙ ap (λ b. b || has_start_of number marks) undecided
+    named_by number marks ∙ ap (λ b. b || (is_decided number marks || has_start_of number marks)) remembered
+    ∙ ap (λ b. b || has_start_of number marks) undecided
     ∙ started_has_second number marks ∙ ap is_some none
 
 -- A number with a second of its start is started.
 
-pub is_started_since : (number : ℕ) (marks : List Mark) (second : ℤ) → started_at number marks ≡ Some second → has_start_of number marks ≡ true
+pub is_started_since : (number : ℕ) (marks : List Mark) (second : ℤ) → started_at number marks ≡ Some second
+    → has_start_of number marks ≡ true
 is_started_since number marks second since = started_has_second number marks ∙ ap is_some since
 
 -- The marks of the five steps.
 
-pending_unnamed : (files : Files) (table : JobTable) (number : ℕ) (shows : ShowsByName files table) → IsPending table number → has_mark_of number shows.read.marks ≡ false
+pending_unnamed : (files : Files) (table : JobTable) (number : ℕ) (shows : ShowsByName files table) → IsPending table number
+    → has_mark_of number shows.read.marks ≡ false
 pending_unnamed files table number shows (job, is) =
     let live : IsLiveBy shows.read.marks files number job Pending = live_in files table number job Pending shows is in
-    unnamed number shows.read.marks live.undecided (not_forgotten shows.read.marks number (marks_legal files table shows) live.undecided) (not_started (started_at number shows.read.marks) live.state_is)
+    unnamed number shows.read.marks live.undecided (not_forgotten shows.read.marks number (marks_legal files table shows) live.undecided)
+    (not_started (started_at number shows.read.marks) live.state_is)
 
-running_started : (files : Files) (table : JobTable) (number : ℕ) (shows : ShowsByName files table) → IsRunning table number → (has_start_of number shows.read.marks ≡ true) × (is_ended number shows.read.marks ≡ false)
+running_started : (files : Files) (table : JobTable) (number : ℕ) (shows : ShowsByName files table) → IsRunning table number
+    → (has_start_of number shows.read.marks ≡ true) × (is_ended number shows.read.marks ≡ false)
 running_started files table number shows (job, second, is) =
     let live : IsLiveBy shows.read.marks files number job (Running second) = live_in files table number job (Running second) shows is in (
       is_started_since number shows.read.marks second (started_then (started_at number shows.read.marks) second live.state_is),
       none_narrower (is_end_of number) (decides number) shows.read.marks (ends_decides number) live.undecided,
     )
 
-done_decided : (files : Files) (table : JobTable) (number : ℕ) (shows : ShowsByName files table) → IsDone table number → (is_decided number shows.read.marks ≡ true) × (is_forgotten number shows.read.marks ≡ false)
+done_decided : (files : Files) (table : JobTable) (number : ℕ) (shows : ShowsByName files table) → IsDone table number
+    → (is_decided number shows.read.marks ≡ true) × (is_forgotten number shows.read.marks ≡ false)
 done_decided files table number shows (fate, is) =
     let done : IsDoneBy shows.read.marks number = done_in files table number fate shows is in
     (done.decided, done.remembered)
 
-legal_here : (files : Files) (table : JobTable) (step : Step) (added : Mark) (shows : ShowsByName files table) → IsLegal table step → AddsMark table step added → IsLegalAfter shows.read.marks added
-legal_here files table (Remove number) added shows legal adds = subst (IsLegalAfter shows.read.marks) (sym adds) (pending_unnamed files table number shows legal)
-legal_here files table (Start number second) added shows legal (job, is, adds) = subst (IsLegalAfter shows.read.marks) (sym adds) (pending_unnamed files table number shows legal)
-legal_here files table (End number ending) added shows legal adds = subst (IsLegalAfter shows.read.marks) (sym adds) (running_started files table number shows legal)
-legal_here files table (Interrupt number) added shows legal adds = subst (IsLegalAfter shows.read.marks) (sym adds) (running_started files table number shows legal)
-legal_here files table (Forget number) added shows legal adds = subst (IsLegalAfter shows.read.marks) (sym adds) (done_decided files table number shows legal)
+legal_here : (files : Files) (table : JobTable) (step : Step) (added : Mark) (shows : ShowsByName files table) → IsLegal table step
+    → AddsMark table step added → IsLegalAfter shows.read.marks added
+legal_here files table (Remove number) added shows legal adds =
+    subst (IsLegalAfter shows.read.marks) (sym adds) (pending_unnamed files table number shows legal)
+legal_here files table (Start number second) added shows legal (job, is, adds) =
+    subst (IsLegalAfter shows.read.marks) (sym adds) (pending_unnamed files table number shows legal)
+legal_here files table (End number ending) added shows legal adds =
+    subst (IsLegalAfter shows.read.marks) (sym adds) (running_started files table number shows legal)
+legal_here files table (Interrupt number) added shows legal adds =
+    subst (IsLegalAfter shows.read.marks) (sym adds) (running_started files table number shows legal)
+legal_here files table (Forget number) added shows legal adds =
+    subst (IsLegalAfter shows.read.marks) (sym adds) (done_decided files table number shows legal)
 legal_here files table _ added shows legal adds = absurd adds
 
-pub legal_marks_by_name : (files : Files) (table : JobTable) (step : Step) (added : Mark) (marks : List Mark) → ShowsByName files table → HasMarks files marks → IsLegal table step → AddsMark table step added → IsLegalAfter marks added
+pub legal_marks_by_name : (files : Files) (table : JobTable) (step : Step) (added : Mark) (marks : List Mark) → ShowsByName files table
+    → HasMarks files marks → IsLegal table step → AddsMark table step added → IsLegalAfter marks added
 legal_marks_by_name files table step added marks shows had legal adds =
     subst (λ list. IsLegalAfter list added) (had_same files table marks shows had) (legal_here files table step added shows legal adds)

@@ -20,20 +20,25 @@ live_in list = length (filter (λ (e : ℕ × JobEntry). is_live e.1) list)
 -- one more entry is at most one more, and never one less
 at_most_one : (entry : ℕ × JobEntry) (list : List (ℕ × JobEntry)) → live_in (entry ∷ list) ≤ live_in list + 1
 at_most_one entry list = by_test (is_live entry.1) where
-  by_test : (lives : Bool) → length (cond lives (entry ∷ filter (λ (e : ℕ × JobEntry). is_live e.1) list) (filter (λ (e : ℕ × JobEntry). is_live e.1) list)) ≤ live_in list + 1
+  by_test : (lives : Bool) → length (cond lives (entry ∷ filter (λ (e : ℕ × JobEntry). is_live e.1) list)
+      (filter (λ (e : ℕ × JobEntry). is_live e.1) list)) ≤ live_in list + 1
   by_test true = omega arith
   by_test false = omega arith
 
 no_fewer : (entry : ℕ × JobEntry) (list : List (ℕ × JobEntry)) → live_in list ≤ live_in (entry ∷ list)
 no_fewer entry list = by_test (is_live entry.1) where
-  by_test : (lives : Bool) → live_in list ≤ length (cond lives (entry ∷ filter (λ (e : ℕ × JobEntry). is_live e.1) list) (filter (λ (e : ℕ × JobEntry). is_live e.1) list))
+  by_test : (lives : Bool) → live_in list
+      ≤ length (cond lives (entry ∷ filter (λ (e : ℕ × JobEntry). is_live e.1) list) (filter (λ (e : ℕ × JobEntry). is_live e.1) list))
   by_test true = omega arith
   by_test false = omega arith
 
-same_first : (entry : ℕ × JobEntry) (list other : List (ℕ × JobEntry)) → live_in list ≤ live_in other + 1 → live_in (entry ∷ list) ≤ live_in (entry ∷ other) + 1
+same_first : (entry : ℕ × JobEntry) (list other : List (ℕ × JobEntry)) → live_in list ≤ live_in other + 1
+    → live_in (entry ∷ list) ≤ live_in (entry ∷ other) + 1
 same_first entry list other few = by_test (is_live entry.1) where
-  by_test : (lives : Bool) → length (cond lives (entry ∷ filter (λ (e : ℕ × JobEntry). is_live e.1) list) (filter (λ (e : ℕ × JobEntry). is_live e.1) list))
-      ≤ length (cond lives (entry ∷ filter (λ (e : ℕ × JobEntry). is_live e.1) other) (filter (λ (e : ℕ × JobEntry). is_live e.1) other)) + 1
+  by_test : (lives : Bool)
+      → length (cond lives (entry ∷ filter (λ (e : ℕ × JobEntry). is_live e.1) list) (filter (λ (e : ℕ × JobEntry). is_live e.1) list))
+      ≤ length (cond lives (entry ∷ filter (λ (e : ℕ × JobEntry). is_live e.1) other) (filter (λ (e : ℕ × JobEntry). is_live e.1) other))
+      + 1
   by_test true = omega (arith, few)
   by_test false = few
 
@@ -42,7 +47,8 @@ put_adds_one : (number : ℕ) (entry : JobEntry) (list : List (ℕ × JobEntry))
 put_adds_one number entry [] = at_most_one (number, entry) []
 put_adds_one number entry (first ∷ later) = by_cmp (nat_cmp number first.0) (put_adds_one number entry later) where
   by_cmp : (order : Ordering) → live_in (put nat_cmp number entry later) ≤ live_in later + 1
-      → live_in (by_order order ((number, entry) ∷ first ∷ later) ((first.0, entry) ∷ later) (first ∷ put nat_cmp number entry later)) ≤ live_in (first ∷ later) + 1
+      → live_in (by_order order ((number, entry) ∷ first ∷ later) ((first.0, entry) ∷ later) (first ∷ put nat_cmp number entry later))
+      ≤ live_in (first ∷ later) + 1
   by_cmp Less rest = at_most_one (number, entry) (first ∷ later)
   by_cmp Equal rest = omega (arith, at_most_one (first.0, entry) later, no_fewer first later)
   by_cmp Greater rest = same_first first (put nat_cmp number entry later) later rest

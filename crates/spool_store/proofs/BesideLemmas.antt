@@ -25,7 +25,8 @@ abbrev pub AreBeside : (List ℕ → Type 0) → Type 0
 AreBeside may_change = (name : List ℕ) → may_change name → IsNoSpoolName name
 
 -- a name that tests distinguish from each of the store's
-pub beside_by : (name : List ℕ) → bytes_eq name sequence_file ≡ false → bytes_eq name journal_file ≡ false → bytes_eq name temporary_file ≡ false
+pub beside_by : (name : List ℕ) → bytes_eq name sequence_file ≡ false → bytes_eq name journal_file ≡ false
+    → bytes_eq name temporary_file ≡ false
     → is_some (job_named name) ≡ false → IsNoSpoolName name
 beside_by name sequence journal temporary none (inl is) = differ_by name sequence_file sequence is
 beside_by name sequence journal temporary none (inr (inl is)) = differ_by name journal_file journal is
@@ -33,7 +34,8 @@ beside_by name sequence journal temporary none (inr (inr (inl is))) = differ_by 
 beside_by name sequence journal temporary none (inr (inr (inr named))) = let impossible : true ≡ false = sym named ∙ none in cc
 
 -- the file of a name that counts is one of the store's
-counted_is_spool : (marks : List Mark) (name : List ℕ) (named : Option NamedJob) → job_named name ≡ named → counts_as marks named ≡ true → IsSpoolName name
+counted_is_spool : (marks : List Mark) (name : List ℕ) (named : Option NamedJob) → job_named name ≡ named
+    → counts_as marks named ≡ true → IsSpoolName name
 counted_is_spool marks name (Some job) is counted = inr (inr (inr (subst IsSome (sym is) refl)))
 counted_is_spool marks name None is counted = let impossible : false ≡ true = counted in cc
 
@@ -43,7 +45,8 @@ module _ (may_change : List ℕ → Type 0) (beside : AreBeside may_change) wher
   kept_name name is may = beside name may is
 
   -- so an image shows what the one shows that it comes of
-  pub shows_the_same : (start : Directory) (image : Files) (alone : LeavesOthers may_change start image) → shown_by image ≡ shown_by alone.from
+  pub shows_the_same : (start : Directory) (image : Files) (alone : LeavesOthers may_change start image)
+      → shown_by image ≡ shown_by alone.from
   shows_the_same start image alone = other_files_count_for_nothing alone.from image (record {
     sequence = alone.others sequence_file (kept_name sequence_file (inl refl));
     journal = alone.others journal_file (kept_name journal_file (inr (inl refl)));
@@ -58,7 +61,8 @@ module _ (may_change : List ℕ → Type 0) (beside : AreBeside may_change) wher
 
   module _ (kept : Kept) (table : JobTable) (old new : Directory) (current : IsCurrent kept old table) (changed : IsChangedAt old new) where
     -- what a name of the store's has in an image is what the one of the start has there
-    from_start : (name : List ℕ) → IsSpoolName name → (image : Files) → (is : IsImage new image) → finite.get image name ≡ finite.get (changed.images image is).from name
+    from_start : (name : List ℕ) → IsSpoolName name → (image : Files) → (is : IsImage new image)
+        → finite.get image name ≡ finite.get (changed.images image is).from name
     from_start name spool image is = (changed.images image is).others name (kept_name name spool)
 
     reads_on : (name : List ℕ) → IsSpoolName name → finite.get (reading_of new) name ≡ finite.get (reading_of old) name
@@ -66,13 +70,16 @@ module _ (may_change : List ℕ → Type 0) (beside : AreBeside may_change) wher
 
     pub stays_current : IsCurrent kept new table
     stays_current = record {
-      shows = λ image is. shows_the_same old image (changed.images image is) ∙ current.shows (changed.images image is).from (changed.images image is).was;
+      shows = λ image is. shows_the_same old image (changed.images image is)
+          ∙ current.shows (changed.images image is).from (changed.images image is).was;
       without_scripts_is = current.without_scripts_is;
       journal = record {
         durable = changed.durable;
         same = λ image is. from_start journal_file (inr (inl refl)) image is
-            ∙ current.journal.same (changed.images image is).from (changed.images image is).was ∙ sym (reads_on journal_file (inr (inl refl)));
-        gives = subst (λ content. GivesReadJournal content kept.journal) (sym (reads_on journal_file (inr (inl refl)))) current.journal.gives;
+            ∙ current.journal.same (changed.images image is).from (changed.images image is).was
+            ∙ sym (reads_on journal_file (inr (inl refl)));
+        gives =
+            subst (λ content. GivesReadJournal content kept.journal) (sym (reads_on journal_file (inr (inl refl)))) current.journal.gives;
         no_temp = λ image is. from_start temporary_file (inr (inr (inl refl))) image is
             ∙ current.journal.no_temp (changed.images image is).from (changed.images image is).was;
       };
@@ -101,7 +108,8 @@ clearings_beside_show_the_same names start image beside is = shows_the_same (Con
 
 pub stores_stay_current_after_placings : StoresStayCurrentAfterPlacings
 stores_stay_current_after_placings kept table temp target bytes old new of_temp of_target current changes placed =
-    stays_current (IsEither temp target) (two_beside temp target of_temp of_target) kept table old.now.directory new.now.directory current (record {
+    stays_current (IsEither temp target) (two_beside temp target of_temp of_target) kept table old.now.directory
+    new.now.directory current (record {
       images = λ image is. (changes_end _ old new changes
           (λ one was. record { alone = left_alone (IsEither temp target) old.now.directory one was; placed = inl refl }) image is).alone;
       durable = placed.durable;

@@ -52,19 +52,24 @@ pub record IsItsFile (marks : List Mark) (files : Files) (number : ℕ) (name : 
   pub alone : (other : JobFile) → IsJobFile marks files other → other.job.number ≡ number → other.name ≡ name
 
 -- a job's file is the one that has the name of it
-same_job : (one other : NamedJob) → one.queue ≡ other.queue → one.number ≡ other.number → one.minute ≡ other.minute → one.new_form ≡ other.new_form → one ≡ other
-same_job one other queue number minute new_form = λ i. record { queue = queue i; number = number i; minute = minute i; new_form = new_form i }
+same_job : (one other : NamedJob) → one.queue ≡ other.queue → one.number ≡ other.number → one.minute ≡ other.minute
+    → one.new_form ≡ other.new_form → one ≡ other
+same_job one other queue number minute new_form =
+    λ i. record { queue = queue i; number = number i; minute = minute i; new_form = new_form i }
 
 -- a live job has its file, in a directory that is shown by name
-file_by_name : (old_form : List ℕ) (files : Files) (table : JobTable) (number : ℕ) (name : List ℕ) (shows : ShowsByName files table) → HaveForms old_form table.last files → IsLiveFileName table old_form number name → IsItsFile shows.read.marks files number name
+file_by_name : (old_form : List ℕ) (files : Files) (table : JobTable) (number : ℕ) (name : List ℕ) (shows : ShowsByName files table)
+    → HaveForms old_form table.last files → IsLiveFileName table old_form number name → IsItsFile shows.read.marks files number name
 file_by_name old_form files table number name shows forms of =
     let marks : List Mark = shows.read.marks in
     let live : IsLiveBy marks files number of.job of.state = live_in files table number of.job of.state shows of.lives in
     let job : NamedJob = record { queue = of.job.queue; number = number; minute = of.job.minute; new_form = is_new_form old_form number } in
     let named : job_named name ≡ Some job = name_given name of.job.queue number of.job.minute (is_new_form old_form number) of.spelled in
     let new_form_is : live.file.job.new_form ≡ is_new_form old_form number =
-    forms.each live.file.name live.file.job live.is.named (subst IsSome (sym live.is.held) refl) ∙ ap (is_new_form old_form) live.number_is in
-    let its_job : live.file.job ≡ job = same_job live.file.job job (ap (λ (j : Job). j.queue) live.job_is) live.number_is (ap (λ (j : Job). j.minute) live.job_is) new_form_is in
+    forms.each live.file.name live.file.job live.is.named (subst IsSome (sym live.is.held) refl)
+    ∙ ap (is_new_form old_form) live.number_is in
+    let its_job : live.file.job ≡ job = same_job live.file.job job (ap (λ (j : Job). j.queue) live.job_is) live.number_is
+    (ap (λ (j : Job). j.minute) live.job_is) new_form_is in
     let its_name : live.file.name ≡ name = one_job_name live.file.name name job (live.is.named ∙ ap Some its_job) named in
     record {
       job = job;
@@ -77,16 +82,21 @@ file_by_name old_form files table number name shows forms of =
     }
 
 -- and in one that shows the table with the journal
-its_file : (old_form : List ℕ) (journal : JournalRead) (table : JobTable) (files : Files) (number : ℕ) (name : List ℕ) → IsShownWith journal table files → HaveForms old_form table.last files → IsLiveFileName table old_form number name → IsItsFile journal.marks files number name
+its_file : (old_form : List ℕ) (journal : JournalRead) (table : JobTable) (files : Files) (number : ℕ) (name : List ℕ)
+    → IsShownWith journal table files → HaveForms old_form table.last files → IsLiveFileName table old_form number name
+    → IsItsFile journal.marks files number name
 its_file old_form journal table files number name is forms of =
     subst (λ (read : JournalRead). IsItsFile read.marks files number name) (reads_as journal table files is)
     (file_by_name old_form files table number name (by_name files table is.shows) forms of)
 
 -- the file of the job that is finished
-pub decided_file : (old_form : List ℕ) (journal : JournalRead) (directory : Directory) (table : JobTable) (step : Step) (mark : Mark) (name : List ℕ) (decision : IsDecisionOf old_form journal directory table step mark name) → IsItsFile journal.marks (reading_of directory) decision.number name
+pub decided_file : (old_form : List ℕ) (journal : JournalRead) (directory : Directory) (table : JobTable) (step : Step)
+    (mark : Mark) (name : List ℕ) (decision : IsDecisionOf old_form journal directory table step mark name)
+    → IsItsFile journal.marks (reading_of directory) decision.number name
 decided_file old_form journal directory table step mark name decision =
     its_file old_form journal table (reading_of directory) decision.number name
-    (shown_with old_form journal directory table decision.is_mark.current (reading_of directory) (reading_is_image directory)) decision.is_mark.current.forms decision.file
+    (shown_with old_form journal directory table decision.is_mark.current (reading_of directory) (reading_is_image directory))
+    decision.is_mark.current.forms decision.file
 
 -- One name alone.
 
@@ -106,9 +116,12 @@ pub apart_from : (name other : List ℕ) → ¬ (other ≡ name) → ¬ (Contain
 apart_from name other differ is = differ (only_one name other is)
 
 -- it is a file still, once the mark is written
-pub decided_held : (old_form : List ℕ) (journal : JournalRead) (first second : Directory) (table : JobTable) (step : Step) (mark : Mark) (name : List ℕ) → IsDecisionOf old_form journal first table step mark name → KeepsFiles first second → AreFiles (name ∷ []) (reading_of second)
+pub decided_held : (old_form : List ℕ) (journal : JournalRead) (first second : Directory) (table : JobTable) (step : Step)
+    (mark : Mark) (name : List ℕ) → IsDecisionOf old_form journal first table step mark name → KeepsFiles first second
+    → AreFiles (name ∷ []) (reading_of second)
 decided_held old_form journal first second table step mark name decision keeps =
-    let file : IsItsFile journal.marks (reading_of first) decision.number name = decided_file old_form journal first table step mark name decision in
+    let file : IsItsFile journal.marks (reading_of first) decision.number name =
+    decided_file old_form journal first table step mark name decision in
     let held : map.get (reading_of second) name ≡ Some file.bytes =
     keeps name (job_name_apart temporary_file journal_file name file.job temporary_no_job journal_no_job file.named) ∙ file.held in
     record {
@@ -121,21 +134,26 @@ decided_held old_form journal first second table step mark name decision keeps =
 -- a journal to which a mark was added, with room made, has one more
 pub one_more : (journal new : JournalRead) (mark : Mark) → new ≡ added (with_room journal) mark → HaveOneMore journal.marks mark new.marks
 one_more journal new mark is = by_room (needs_room journal) (ap (λ (read : JournalRead). read.marks) is) where
-  by_room : (needs : Bool) → new.marks ≡ (added (if needs then compacted journal else journal) mark).marks → HaveOneMore journal.marks mark new.marks
+  by_room : (needs : Bool) → new.marks ≡ (added (if needs then compacted journal else journal) mark).marks
+      → HaveOneMore journal.marks mark new.marks
   by_room true more = inr more
   by_room false more = inl more
 
 -- what one more decides is finished
-pub decided_by_it : (before after : List Mark) (mark : Mark) (number : ℕ) → HaveOneMore before mark after → decides number mark ≡ true → is_decided number after ≡ true
+pub decided_by_it : (before after : List Mark) (mark : Mark) (number : ℕ) → HaveOneMore before mark after → decides number mark ≡ true
+    → is_decided number after ≡ true
 decided_by_it before after mark number (inl more) is = ap (is_decided number) more ∙ any_with (decides number) before mark is
 decided_by_it before after mark number (inr kept) is = ap (is_decided number) kept ∙ any_with (decides number) (kept_marks before) mark is
 
 -- what is finished with one more was finished before, or is finished by it
-pub decided_before_or_by_it : (before after : List Mark) (mark : Mark) (number : ℕ) → AreLegalMarks before → HaveOneMore before mark after → is_decided number after ≡ true → (is_decided number before ≡ true) ⊎ (decides number mark ≡ true)
+pub decided_before_or_by_it : (before after : List Mark) (mark : Mark) (number : ℕ) → AreLegalMarks before → HaveOneMore before mark after
+    → is_decided number after ≡ true → (is_decided number before ≡ true) ⊎ (decides number mark ≡ true)
 decided_before_or_by_it before after mark number legal (inl more) is =
-    or_cases (is_decided number before) (decides number mark) (sym (any_more (decides number) before mark) ∙ sym (ap (is_decided number) more) ∙ is)
+    or_cases (is_decided number before) (decides number mark) (sym (any_more (decides number) before mark)
+    ∙ sym (ap (is_decided number) more) ∙ is)
 decided_before_or_by_it before after mark number legal (inr kept) is =
-    elim (or_cases (is_decided number (kept_marks before)) (decides number mark) (sym (any_more (decides number) (kept_marks before) mark) ∙ sym (ap (is_decided number) kept) ∙ is)) [
+    elim (or_cases (is_decided number (kept_marks before)) (decides number mark) (sym (any_more (decides number) (kept_marks before) mark)
+    ∙ sym (ap (is_decided number) kept) ∙ is)) [
       | inl old ↦ inl (kept_decided before number legal old)
       | inr new ↦ inr new
     ]

@@ -36,7 +36,8 @@ use Rattle.whole_file.proofs.ChangesJoined.{changes_end, changes_join}
 use Rattle.spool_store.proofs.MarkingCalls.{journal_is_spool, leaves_through, stepping_one, stepping_start}
 
 -- The mark of a decision was added in a first run, and in a second one the job's file is removed.
-pub record IsDeciding (old_form : List ℕ) (journal new : JournalRead) (table : JobTable) (step : Step) (mark : Mark) (name : List ℕ) (first second third : World) : Type 0 where
+pub record IsDeciding (old_form : List ℕ) (journal new : JournalRead) (table : JobTable) (step : Step) (mark : Mark) (name : List ℕ)
+    (first second third : World) : Type 0 where
   pub decision : IsDecisionOf old_form journal first.now.directory table step mark name
   pub legal : AreLegalMarks journal.marks
   pub more : HaveOneMore journal.marks mark new.marks
@@ -46,11 +47,14 @@ pub record IsDeciding (old_form : List ℕ) (journal new : JournalRead) (table :
   pub clears : ChangesFiles (LeavesOthers (Contains (name ∷ [])) second.now.directory) second third
 
 -- a call that failed
-pub unmarked_call : (old_form : List ℕ) (table : JobTable) (step : Step) (first third : World) → ChangesFiles (IsSteppingOn table (step ∷ []) first.now.directory) first third → (result : Result JournalRead HostFault) → IsErr result → StoreCall table (step ∷ []) first third (kept_by old_form (after_step table step) result)
+pub unmarked_call : (old_form : List ℕ) (table : JobTable) (step : Step) (first third : World)
+    → ChangesFiles (IsSteppingOn table (step ∷ []) first.now.directory) first third → (result : Result JournalRead HostFault) → IsErr result
+    → StoreCall table (step ∷ []) first third (kept_by old_form (after_step table step) result)
 unmarked_call old_form table step first third files (Ok new) failed = cc
 unmarked_call old_form table step first third files (Err fault) failed = record { files = files; current = tt; others = tt }
 
-module _ (old_form : List ℕ) (journal new : JournalRead) (table : JobTable) (step : Step) (mark : Mark) (name : List ℕ) (first second third : World) (deciding : IsDeciding old_form journal new table step mark name first second third) where
+module _ (old_form : List ℕ) (journal new : JournalRead) (table : JobTable) (step : Step) (mark : Mark) (name : List ℕ)
+    (first second third : World) (deciding : IsDeciding old_form journal new table step mark name first second third) where
   abbrev start : Directory
   start = first.now.directory
 
@@ -74,14 +78,16 @@ module _ (old_form : List ℕ) (journal new : JournalRead) (table : JobTable) (s
   is_spool other is = inr (inr (inr (rw (only_one name other is) (rw file.named refl))))
 
   -- what an image shows of which this one lacks the file
-  shown_before : (image : Files) (alone : LeavesOthers (Contains (name ∷ [])) middle image) → IsShownWith new (after_step table step) alone.from
+  shown_before : (image : Files) (alone : LeavesOthers (Contains (name ∷ [])) middle image)
+      → IsShownWith new (after_step table step) alone.from
   shown_before image alone = record {
     shows = marked.shows alone.from alone.was;
     gives = subst (λ content. GivesReadJournal content new) (sym (marked.holds.same alone.from alone.was)) marked.holds.gives;
   }
 
   -- a file that counts there is not that of the finished job
-  counted_elsewhere : (image : Files) (alone : LeavesOthers (Contains (name ∷ [])) middle image) (marks : List Mark) (other : List ℕ) → HasMarks alone.from marks → counts marks other ≡ true → ¬ (Contains (name ∷ []) other)
+  counted_elsewhere : (image : Files) (alone : LeavesOthers (Contains (name ∷ [])) middle image) (marks : List Mark) (other : List ℕ)
+      → HasMarks alone.from marks → counts marks other ≡ true → ¬ (Contains (name ∷ []) other)
   counted_elsewhere image alone marks other had counted is =
       let shown : IsShownWith new (after_step table step) alone.from = shown_before image alone in
       let same : new.marks ≡ marks =
@@ -90,7 +96,8 @@ module _ (old_form : List ℕ) (journal new : JournalRead) (table : JobTable) (s
       let decided : is_decided file.job.number marks ≡ true =
       ap (is_decided file.job.number) (sym same) ∙ ap (λ n. is_decided n new.marks) file.number_is
       ∙ decided_by_it journal.marks new.marks mark deciding.decision.number deciding.more deciding.decision.decided in
-      let impossible : false ≡ true = sym (ap not decided) ∙ sym (ap (counts_as marks) file.named) ∙ sym (ap (counts marks) (only_one name other is)) ∙ counted in
+      let impossible : false ≡ true = sym (ap not decided) ∙ sym (ap (counts_as marks) file.named)
+      ∙ sym (ap (counts marks) (only_one name other is)) ∙ counted in
       cc
 
   -- an image without the file shows the same table
@@ -103,16 +110,19 @@ module _ (old_form : List ℕ) (journal new : JournalRead) (table : JobTable) (s
 
   -- images of the middle leave other files alone
   through : (from : Files) → IsImage middle from → LeavesOthers IsSpoolName start from
-  through from is = (changes_end _ first second deciding.adds (stepping_start table (step ∷ []) start deciding.decision.is_mark.current.shows) from is).others
+  through from is = (changes_end _ first second deciding.adds
+      (stepping_start table (step ∷ []) start deciding.decision.is_mark.current.shows) from is).others
 
   -- through both runs, the one step is made at most
   decide_stepping : ChangesFiles (IsSteppingOn table (step ∷ []) start) first third
   decide_stepping =
       changes_join _ _ first second third deciding.adds deciding.clears
-      (λ image alone. stepping_one table step start image (without_file image alone) (leaves_through (Contains (name ∷ [])) start middle image is_spool through alone))
+      (λ image alone. stepping_one table step start image (without_file image alone)
+      (leaves_through (Contains (name ∷ [])) start middle image is_spool through alone))
 
   -- no other file has the number of the job
-  no_other_file : (other : List ℕ) (job : NamedJob) → job_named other ≡ Some job → job.number ≡ deciding.decision.number → ¬ (other ≡ name) → finite.get (reading_of start) other ≡ None
+  no_other_file : (other : List ℕ) (job : NamedJob) → job_named other ≡ Some job → job.number ≡ deciding.decision.number → ¬ (other ≡ name)
+      → finite.get (reading_of start) other ≡ None
   no_other_file other job named number_is differ = by_held (finite.get (reading_of start) other) refl where
     by_held : (found : Option (List ℕ)) → finite.get (reading_of start) other ≡ found → finite.get (reading_of start) other ≡ None
     by_held None is = is
@@ -123,37 +133,44 @@ module _ (old_form : List ℕ) (journal new : JournalRead) (table : JobTable) (s
     }) number_is))
 
   -- before the removal, that is the only file of a finished number
-  only_file : (other : List ℕ) (job : NamedJob) → job_named other ≡ Some job → is_decided job.number new.marks ≡ true → ¬ (other ≡ name) → finite.get (reading_of middle) other ≡ None
-  only_file other job named decided differ = elim (decided_before_or_by_it journal.marks new.marks mark job.number deciding.legal deciding.more decided) [
-    | inl old ↦ marked.decided other job named old
-    | inr now ↦ deciding.keeps other (job_name_apart temporary_file journal_file other job temporary_no_job journal_no_job named)
-        ∙ no_other_file other job named (one_decided mark job.number deciding.decision.number now deciding.decision.decided) differ
-  ]
+  only_file : (other : List ℕ) (job : NamedJob) → job_named other ≡ Some job → is_decided job.number new.marks ≡ true → ¬ (other ≡ name)
+      → finite.get (reading_of middle) other ≡ None
+  only_file other job named decided differ =
+      elim (decided_before_or_by_it journal.marks new.marks mark job.number deciding.legal deciding.more decided) [
+        | inl old ↦ marked.decided other job named old
+        | inr now ↦ deciding.keeps other (job_name_apart temporary_file journal_file other job temporary_no_job journal_no_job named)
+            ∙ no_other_file other job named (one_decided mark job.number deciding.decision.number now deciding.decision.decided) differ
+      ]
 
   -- so none is left
   none_left : AreCleared (name ∷ []) middle third.now.directory → HasNoDecidedFile new.marks (reading_of third.now.directory)
   none_left cleared other job named decided = elim (one_or_other other name) [
-    | inl same ↦ cleared.gone other (subst (Contains (name ∷ [])) (sym same) (is_the_one name)) (reading_of third.now.directory) (reading_is_image third.now.directory)
+    | inl same ↦ cleared.gone other (subst (Contains (name ∷ [])) (sym same) (is_the_one name)) (reading_of third.now.directory)
+        (reading_is_image third.now.directory)
     | inr differ ↦ cleared.others other (apart_from name other differ) ∙ only_file other job named decided differ
   ]
 
   -- each file that exists was there at the start, so its name has the form that is kept
-  forms_left : AreCleared (name ∷ []) middle third.now.directory → HaveForms old_form (after_step table step).last (reading_of third.now.directory)
+  forms_left : AreCleared (name ∷ []) middle third.now.directory
+      → HaveForms old_form (after_step table step).last (reading_of third.now.directory)
   forms_left cleared = record {
     each = λ other job named there. elim (one_or_other other name) [
       | inl same ↦
           let gone : finite.get (reading_of third.now.directory) other ≡ None =
-          cleared.gone other (subst (Contains (name ∷ [])) (sym same) (is_the_one name)) (reading_of third.now.directory) (reading_is_image third.now.directory) in
+          cleared.gone other (subst (Contains (name ∷ [])) (sym same) (is_the_one name)) (reading_of third.now.directory)
+          (reading_is_image third.now.directory) in
           let impossible : false ≡ true = sym (ap is_some gone) ∙ there in
           cc
       | inr differ ↦ deciding.decision.is_mark.current.forms.each other job named (subst IsSome
-          (cleared.others other (apart_from name other differ) ∙ deciding.keeps other (job_name_apart temporary_file journal_file other job temporary_no_job journal_no_job named)) there)
+          (cleared.others other (apart_from name other differ)
+          ∙ deciding.keeps other (job_name_apart temporary_file journal_file other job temporary_no_job journal_no_job named)) there)
     ];
     drawn = λ number is. still_drawn table step number (deciding.decision.is_mark.current.forms.drawn number is);
   }
 
   -- and what is kept is current
-  decided_current : AreCleared (name ∷ []) middle third.now.directory → IsCurrent (kept_with old_form new (after_step table step)) third.now.directory (after_step table step)
+  decided_current : AreCleared (name ∷ []) middle third.now.directory
+      → IsCurrent (kept_with old_form new (after_step table step)) third.now.directory (after_step table step)
   decided_current cleared =
       let each : (image : Files) → IsImage third.now.directory image → LeavesOthers (Contains (name ∷ [])) middle image =
       changes_end _ second third deciding.clears (λ image is. record { from = image; was = is; others = λ other apart. refl }) in
@@ -182,8 +199,10 @@ module _ (old_form : List ℕ) (journal new : JournalRead) (table : JobTable) (s
       cleared.others other (λ is. apart (is_spool other is)) ∙ deciding.keeps other (λ either. apart (journal_is_spool other either))
 
   -- whatever the removal answers
-  pub uncleared_call : (result : Result JournalRead HostFault) → IsErr result → StoreCall table (step ∷ []) first third (kept_by old_form (after_step table step) result)
+  pub uncleared_call : (result : Result JournalRead HostFault) → IsErr result
+      → StoreCall table (step ∷ []) first third (kept_by old_form (after_step table step) result)
   uncleared_call = unmarked_call old_form table step first third decide_stepping
 
-  pub cleared_call : AreCleared (name ∷ []) middle third.now.directory → StoreCall {E = HostFault} table (step ∷ []) first third (Ok (kept_with old_form new (after_step table step)))
+  pub cleared_call : AreCleared (name ∷ []) middle third.now.directory
+      → StoreCall {E = HostFault} table (step ∷ []) first third (Ok (kept_with old_form new (after_step table step)))
   cleared_call cleared = record { files = decide_stepping; current = decided_current cleared; others = decide_others cleared }

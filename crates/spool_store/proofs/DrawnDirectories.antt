@@ -32,25 +32,31 @@ pub each_gives : (directory : Directory) (table : JobTable) → EachShows direct
 each_gives directory table shows image is = (by_name image table (shows image is)).last
 
 -- the directory shows the same where the sequence file gives the same
-same_number_shown : (before after : Files) (table : JobTable) → Shows before table → last_in (finite.get after sequence_file) ≡ Ok table.last → AgreeElsewhere temporary_file sequence_file before after → Shows after table
+same_number_shown : (before after : Files) (table : JobTable) → Shows before table → last_in (finite.get after sequence_file)
+    ≡ Ok table.last → AgreeElsewhere temporary_file sequence_file before after → Shows after table
 same_number_shown before after table shows number others =
     let is : ShowsByName before table = by_name before table shows in
-    let agree : AgreeOnNames before after = λ name job named. others name (job_name_apart temporary_file sequence_file name job temporary_no_job sequence_no_job named) in
+    let agree : AgreeOnNames before after =
+    λ name job named. others name (job_name_apart temporary_file sequence_file name job temporary_no_job sequence_no_job named) in
     shown after table (record {
       read = is.read;
       last = last_spelled (finite.get after sequence_file) table.last number;
-      journal = read_gives_journal table.last (finite.get after journal_file) is.read (ap (journal_in table.last) (others journal_file journal_apart) ∙ journal_read before table is);
+      journal = read_gives_journal table.last (finite.get after journal_file) is.read
+          (ap (journal_in table.last) (others journal_file journal_apart) ∙ journal_read before table is);
       sound = sound_kept table.last table.last is.read.marks before after (omega arith) agree is.sound;
       batch = is.batch;
-      entries = λ at. entry_kept is.read.marks before after at (entry_at table at) (agreeing_keep is.read.marks before after at agree) (is.entries at);
+      entries = λ at.
+          entry_kept is.read.marks before after at (entry_at table at) (agreeing_keep is.read.marks before after at agree) (is.entries at);
     })
 
 -- a name that is none of the store's is neither that of a file that is being made nor another of the store's
 pub not_either : (own name : List ℕ) → IsSpoolName own → ¬ (IsSpoolName name) → ¬ (IsEither temporary_file own name)
-not_either own name is other = neither temporary_file own name (λ same. other (inr (inr (inl same)))) (λ same. other (subst IsSpoolName (sym same) is))
+not_either own name is other =
+    neither temporary_file own name (λ same. other (inr (inr (inl same)))) (λ same. other (subst IsSpoolName (sym same) is))
 
 -- While the next number is drawn, an image shows the table before the submission or after its first step.
-pub drawing_steps : (table : JobTable) (job : Job) (start : Directory) (image : Files) → EachShows start table → IsDrawing table.last start image → IsSteppingOn table (submission table job) start image
+pub drawing_steps : (table : JobTable) (job : Job) (start : Directory) (image : Files) → EachShows start table
+    → IsDrawing table.last start image → IsSteppingOn table (submission table job) start image
 drawing_steps table job start image shows drawing =
     let from : Files = drawing.alone.from in
     let others : LeavesOthers IsSpoolName start image = record {
@@ -68,7 +74,8 @@ drawing_steps table job start image shows drawing =
       | inr next ↦ record {
         prefix = Draw ∷ [];
         is_prefix = (_, refl);
-        shows = draws_are_shown from image table (shows from drawing.alone.was) (record { number = last_given _ (table.last + 1) next; others = drawing.alone.others });
+        shows = draws_are_shown from image table (shows from drawing.alone.was)
+            (record { number = last_given _ (table.last + 1) next; others = drawing.alone.others });
         others = others;
       }
     ]
@@ -88,7 +95,8 @@ pub record IsFileOfNext (table : JobTable) (job : Job) (name : List ℕ) : Type 
 module _ (table : JobTable) (job : Job) (name : List ℕ) (file : IsFileOfNext table job name) where
   -- the sequence file has another name, and so has a file that is being made
   pub sequence_differs : ¬ (IsEither temporary_file name sequence_file)
-  sequence_differs = neither temporary_file name sequence_file (differ_by sequence_file temporary_file refl) (λ same. job_name_differs name sequence_file _ file.named sequence_no_job (sym same))
+  sequence_differs = neither temporary_file name sequence_file (differ_by sequence_file temporary_file refl)
+      (λ same. job_name_differs name sequence_file _ file.named sequence_no_job (sym same))
 
   named_apart : ¬ (IsEither temporary_file sequence_file name)
   named_apart = job_name_apart temporary_file sequence_file name _ temporary_no_job sequence_no_job file.named
@@ -97,12 +105,22 @@ module _ (table : JobTable) (job : Job) (name : List ℕ) (file : IsFileOfNext t
     number : last_in (finite.get image sequence_file) ≡ Ok (table.last + 1)
     number = ap last_in (others sequence_file sequence_differs) ∙ drawn.number
 
-    elsewhere : (other : List ℕ) → ¬ (IsEither temporary_file sequence_file other) → ¬ (other ≡ name) → finite.get image other ≡ finite.get first other
-    elsewhere other apart differs = others other (neither temporary_file name other (λ same. apart (inl same)) differs) ∙ drawn.others other apart
+    elsewhere : (other : List ℕ) → ¬ (IsEither temporary_file sequence_file other) → ¬ (other ≡ name)
+        → finite.get image other ≡ finite.get first other
+    elsewhere other apart differs = others other (neither temporary_file name other (λ same. apart (inl same)) differs)
+        ∙ drawn.others other apart
 
     -- with the script there, the job was accepted
     pub accepted : finite.get image name ≡ Some job.script → HasAccepted table job first image
-    accepted placed = record { number = number; name = name; named = file.named; mail = file.mail; header = file.header; placed = placed; others = elsewhere }
+    accepted placed = record {
+      number = number;
+      name = name;
+      named = file.named;
+      mail = file.mail;
+      header = file.header;
+      placed = placed;
+      others = elsewhere;
+    }
 
     -- with what was there before, no more than the number was drawn
     not_placed : finite.get image name ≡ finite.get from name → HasDrawn table first image
@@ -115,7 +133,9 @@ module _ (table : JobTable) (job : Job) (name : List ℕ) (file : IsFileOfNext t
     }
 
   -- While the file is placed, an image shows the table after one step of the submission or after both.
-  pub placing_steps : (start middle : Directory) (image : Files) → EachShows start table → ((from : Files) → IsImage middle from → IsAfterDraw table start from) → IsPlacing temporary_file name job.script middle image → IsSteppingOn table (submission table job) start image
+  pub placing_steps : (start middle : Directory) (image : Files) → EachShows start table
+      → ((from : Files) → IsImage middle from → IsAfterDraw table start from) → IsPlacing temporary_file name job.script middle image
+      → IsSteppingOn table (submission table job) start image
   placing_steps start middle image shows after placing =
       let from : Files = placing.alone.from in
       let draw : IsAfterDraw table start from = after from placing.alone.was in
@@ -130,13 +150,15 @@ module _ (table : JobTable) (job : Job) (name : List ℕ) (file : IsFileOfNext t
         | inl same ↦ record {
           prefix = Draw ∷ [];
           is_prefix = (_, refl);
-          shows = draws_are_shown draw.from image table (shows draw.from draw.was) (not_placed draw.from from image draw.drawn placing.alone.others same);
+          shows = draws_are_shown draw.from image table (shows draw.from draw.was)
+              (not_placed draw.from from image draw.drawn placing.alone.others same);
           others = others;
         }
         | inr script ↦ record {
           prefix = submission table job;
           is_prefix = ([], refl);
-          shows = accepts_are_shown draw.from image table job (shows draw.from draw.was) (accepted draw.from from image draw.drawn placing.alone.others script);
+          shows = accepts_are_shown draw.from image table job (shows draw.from draw.was)
+              (accepted draw.from from image draw.drawn placing.alone.others script);
           others = others;
         }
       ]

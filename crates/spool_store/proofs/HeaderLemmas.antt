@@ -23,12 +23,14 @@ pub record BeginsAsJob (table : JobTable) (number : ℕ) (bytes : List ℕ) : Ty
   pub begins : BeginsWithHeader bytes of.job.user mail
 
 -- what was read of the file's first bytes does
-pub begins_as_job : (kept : Kept) (directory : Directory) (table : JobTable) (number : ℕ) (name bytes : List ℕ) → IsCurrent kept directory table →
+pub begins_as_job : (kept : Kept) (directory : Directory) (table : JobTable) (number : ℕ) (name bytes : List ℕ)
+    → IsCurrent kept directory table →
     HoldsScript table directory number name → bytes_from (reading_of directory) name 0 60 ≡ Some bytes → BeginsAsJob table number bytes
 begins_as_job kept directory table number name bytes current holds read =
     let part : Some (take 60 holds.bytes) ≡ Some bytes = sym (ap (option_map (λ whole. take 60 (drop 0 whole))) holds.held) ∙ read in
     let part_is : take 60 holds.bytes ≡ bytes = cc in
-    let its : HasItsHeader holds.script.job = shown_jobs_have_headers (reading_of directory) table number holds.script.job holds.script.state
+    let its : HasItsHeader holds.script.job =
+    shown_jobs_have_headers (reading_of directory) table number holds.script.job holds.script.state
     (current.shows (reading_of directory) (reading_is_image directory)) holds.script.lives in
     let found : header_in bytes ≡ Some (holds.script.job.user, its.0) =
     ap header_in (sym part_is) ∙ header_in-take holds.bytes ∙ ap header_in holds.script.script ∙ its.1 in

@@ -22,7 +22,8 @@ all_filtered test keep [] all = refl
 all_filtered test keep (mark ∷ later) all =
     let tests : (test mark ≡ true) × (list_all test later ≡ true) = and_parts _ _ all in
     by_keep (keep mark) tests.0 (all_filtered test keep later tests.1) where
-      by_keep : (kept : Bool) → test mark ≡ true → list_all test (filter keep later) ≡ true → list_all test (cond kept (mark ∷ filter keep later) (filter keep later)) ≡ true
+      by_keep : (kept : Bool) → test mark ≡ true → list_all test (filter keep later) ≡ true
+          → list_all test (cond kept (mark ∷ filter keep later) (filter keep later)) ≡ true
       by_keep true here rest = and_from (test mark) _ here rest
       by_keep false here rest = rest
 
@@ -42,30 +43,37 @@ abbrev pub IsNarrower : (Mark → Bool) → (Mark → Bool) → Type 0
 IsNarrower test wider = (mark : Mark) → test mark ≡ true → wider mark ≡ true
 
 -- lists with the same marks of the number pass alike
-same_test : (number : ℕ) (test : Mark → Bool) (one other : List Mark) → IsNarrower test (is_mark_of number) → marks_of number other ≡ marks_of number one → list_any test other ≡ list_any test one
+same_test : (number : ℕ) (test : Mark → Bool) (one other : List Mark) → IsNarrower test (is_mark_of number)
+    → marks_of number other ≡ marks_of number one → list_any test other ≡ list_any test one
 same_test number test one other of_number same =
-    sym (any-filter_same test (is_mark_of number) true of_number other) ∙ ap (list_any test) same ∙ any-filter_same test (is_mark_of number) true of_number one
+    sym (any-filter_same test (is_mark_of number) true of_number other) ∙ ap (list_any test) same
+    ∙ any-filter_same test (is_mark_of number) true of_number one
 
 -- a compaction keeps each test of a number that is not forgotten
-pub test_kept : (marks : List Mark) (number : ℕ) (test : Mark → Bool) → AreLegalMarks marks → IsNarrower test (is_mark_of number) → is_forgotten number marks ≡ false → list_any test (kept_marks marks) ≡ list_any test marks
+pub test_kept : (marks : List Mark) (number : ℕ) (test : Mark → Bool) → AreLegalMarks marks → IsNarrower test (is_mark_of number)
+    → is_forgotten number marks ≡ false → list_any test (kept_marks marks) ≡ list_any test marks
 test_kept marks number test legal of_number remembered =
     same_test number test marks (kept_marks marks) of_number ((kept_marks_keep_what_counts marks legal).same_marks number remembered)
 
 -- a number that no mark names is not named among the kept ones
-pub unnamed_kept : (marks : List Mark) (number : ℕ) → AreLegalMarks marks → has_mark_of number marks ≡ false → has_mark_of number (kept_marks marks) ≡ false
+pub unnamed_kept : (marks : List Mark) (number : ℕ) → AreLegalMarks marks → has_mark_of number marks ≡ false
+    → has_mark_of number (kept_marks marks) ≡ false
 unnamed_kept marks number legal unnamed =
     test_kept marks number (is_mark_of number) legal (λ mark named. named) (unnamed_none number marks unnamed).0 ∙ unnamed
 
 -- what is finished among the kept marks was finished
-pub kept_decided : (marks : List Mark) (number : ℕ) → AreLegalMarks marks → is_decided number (kept_marks marks) ≡ true → is_decided number marks ≡ true
+pub kept_decided : (marks : List Mark) (number : ℕ) → AreLegalMarks marks → is_decided number (kept_marks marks) ≡ true
+    → is_decided number marks ≡ true
 kept_decided marks number legal decided = by_test (is_forgotten number marks) refl where
   by_test : (forgotten : Bool) → is_forgotten number marks ≡ forgotten → is_decided number marks ≡ true
   by_test true is = forgotten_was_decided number [] marks legal is
   by_test false is = sym (test_kept marks number (decides number) legal (decides_names number) is) ∙ decided
 
 -- a number that is started and not ended is not finished
-running_undecided : (number : ℕ) (marks : List Mark) → AreLegalMarks marks → has_start_of number marks ≡ true → is_ended number marks ≡ false → is_decided number marks ≡ false
-running_undecided number marks legal started running = ap (λ b. b && is_decided number marks) (sym started) ∙ sym (ended_by number marks legal) ∙ running
+running_undecided : (number : ℕ) (marks : List Mark) → AreLegalMarks marks → has_start_of number marks ≡ true
+    → is_ended number marks ≡ false → is_decided number marks ≡ false
+running_undecided number marks legal started running = ap (λ b. b && is_decided number marks) (sym started)
+    ∙ sym (ended_by number marks legal) ∙ running
 
 -- The marks of every journal.
 
@@ -76,15 +84,18 @@ sound_is_legal inside scanned is sound = subst (λ (read : JournalRead). AreLega
 -- What may follow.
 
 -- a number that runs keeps its start, and is not ended
-runs_kept : (marks : List Mark) (number : ℕ) → AreLegalMarks marks → (has_start_of number marks ≡ true) × (is_ended number marks ≡ false) → (has_start_of number (kept_marks marks) ≡ true) × (is_ended number (kept_marks marks) ≡ false)
+runs_kept : (marks : List Mark) (number : ℕ) → AreLegalMarks marks → (has_start_of number marks ≡ true) × (is_ended number marks ≡ false)
+    → (has_start_of number (kept_marks marks) ≡ true) × (is_ended number (kept_marks marks) ≡ false)
 runs_kept marks number legal (started, running) =
-    let remembered : is_forgotten number marks ≡ false = not_forgotten marks number legal (running_undecided number marks legal started running) in (
+    let remembered : is_forgotten number marks ≡ false =
+    not_forgotten marks number legal (running_undecided number marks legal started running) in (
       test_kept marks number (is_start_of number) legal (starts_names number) remembered ∙ started,
       test_kept marks number (is_end_of number) legal (ends_names number) remembered ∙ running,
     )
 
 -- a mark that is legal after marks is so after what a compaction keeps of them
-pub legal_when_kept : (marks : List Mark) (mark : Mark) → AreLegalMarks marks → IsLegalAfter marks mark → IsLegalAfter (kept_marks marks) mark
+pub legal_when_kept : (marks : List Mark) (mark : Mark) → AreLegalMarks marks → IsLegalAfter marks mark
+    → IsLegalAfter (kept_marks marks) mark
 legal_when_kept marks (Removed number) legal is = unnamed_kept marks number legal is
 legal_when_kept marks (Started number queue second) legal is = unnamed_kept marks number legal is
 legal_when_kept marks (Ended number ending) legal is = runs_kept marks number legal is

@@ -21,33 +21,42 @@ use Rattle.spool_store.proofs.StartLemmas.{life_decides}
 
 -- the name of a job is not that of a file that is being made
 pub not_temporary : (name : List ℕ) (job : NamedJob) → job_named name ≡ Some job → pointwise nat_eq name temporary_file ≡ false
-not_temporary name job is = unequal nat_eq name temporary_file (λ same. absurd (omega (arith, same, (name_spelled name job is).counted, few_digits job.new_form)))
+not_temporary name job is =
+    unequal nat_eq name temporary_file (λ same. absurd (omega (arith, same, (name_spelled name job is).counted, few_digits job.new_form)))
 
-pub decided_kind : (marks : List Mark) (lives : Lifecycles) (name : List ℕ) (job : JobName) (life : Lifecycle) → TellLifecycles marks lives → SpellsJobName name job.queue job.number job.minute job.new_form → life ≡ lifecycle_in lives job.number → true ≡ is_some life.fate → IsKind marks name LeftOver
+pub decided_kind : (marks : List Mark) (lives : Lifecycles) (name : List ℕ) (job : JobName) (life : Lifecycle) → TellLifecycles marks lives
+    → SpellsJobName name job.queue job.number job.minute job.new_form → life ≡ lifecycle_in lives job.number → true ≡ is_some life.fate
+    → IsKind marks name LeftOver
 decided_kind marks lives name job life tells spelled is fate =
     let named : job_named name ≡ Some (job_of_name job) = name_given name job.queue job.number job.minute job.new_form spelled in
     let decided : is_decided job.number marks ≡ true = life_decides marks lives job.number life true tells is (sym fate) in (
       ap (counts_as marks) named ∙ ap not decided,
-      ap (λ one. pointwise nat_eq name temporary_file || is_decided_job marks one) named ∙ ap (λ b. pointwise nat_eq name temporary_file || b) decided ∙ or_true (pointwise nat_eq name temporary_file),
+      ap (λ one. pointwise nat_eq name temporary_file || is_decided_job marks one) named
+          ∙ ap (λ b. pointwise nat_eq name temporary_file || b) decided ∙ or_true (pointwise nat_eq name temporary_file),
     )
 
-pub counted_kind : (marks : List Mark) (lives : Lifecycles) (name : List ℕ) (job : JobName) (life : Lifecycle) → TellLifecycles marks lives → SpellsJobName name job.queue job.number job.minute job.new_form → life ≡ lifecycle_in lives job.number → false ≡ is_some life.fate → IsKind marks name (Counts job)
+pub counted_kind : (marks : List Mark) (lives : Lifecycles) (name : List ℕ) (job : JobName) (life : Lifecycle) → TellLifecycles marks lives
+    → SpellsJobName name job.queue job.number job.minute job.new_form → life ≡ lifecycle_in lives job.number → false ≡ is_some life.fate
+    → IsKind marks name (Counts job)
 counted_kind marks lives name job life tells spelled is fate =
     let named : job_named name ≡ Some (job_of_name job) = name_given name job.queue job.number job.minute job.new_form spelled in
     let decided : is_decided job.number marks ≡ false = life_decides marks lives job.number life false tells is (sym fate) in (
       ap (counts_as marks) named ∙ ap not decided,
-      ap (λ one. pointwise nat_eq name temporary_file || is_decided_job marks one) named ∙ ap (λ b. pointwise nat_eq name temporary_file || b) decided ∙ ap (λ b. b || false) (not_temporary name (job_of_name job) named),
+      ap (λ one. pointwise nat_eq name temporary_file || is_decided_job marks one) named
+          ∙ ap (λ b. pointwise nat_eq name temporary_file || b) decided ∙ ap (λ b. b || false) (not_temporary name (job_of_name job) named),
       named,
     )
 
 -- a name that spells no job
-none_named : (name : List ℕ) → ((queue number minute : ℕ) (new_form : Bool) → ¬ (SpellsJobName name queue number minute new_form)) → job_named name ≡ None
+none_named : (name : List ℕ)
+    → ((queue number minute : ℕ) (new_form : Bool) → ¬ (SpellsJobName name queue number minute new_form)) → job_named name ≡ None
 none_named name none = by_named (job_named name) refl where
   by_named : (named : Option NamedJob) → job_named name ≡ named → named ≡ None
   by_named None is = refl
   by_named (Some job) is = absurd (none job.queue job.number job.minute job.new_form (name_spelled name job is))
 
-pub other_kind : (marks : List Mark) (name : List ℕ) → ((queue number minute : ℕ) (new_form : Bool) → ¬ (SpellsJobName name queue number minute new_form)) → false ≡ pointwise nat_eq name temporary_file → IsKind marks name Other
+pub other_kind : (marks : List Mark) (name : List ℕ) → ((queue number minute : ℕ) (new_form : Bool)
+    → ¬ (SpellsJobName name queue number minute new_form)) → false ≡ pointwise nat_eq name temporary_file → IsKind marks name Other
 other_kind marks name none other =
     let named : job_named name ≡ None = none_named name none in (
       ap (counts_as marks) named,

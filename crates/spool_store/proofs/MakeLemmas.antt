@@ -38,7 +38,8 @@ changes_made make [] each = tt
 changes_made make (x ∷ xs) each = (each x, changes_made make xs each)
 
 -- steps that were made, and those that may have taken effect too, are a prefix of all
-pub made_prefix : {X : Type 0} (steps : List X) (made begun : ℕ) → (beyond : List X) × (steps ≡ (take made steps ++ take begun (drop made steps)) ++ beyond)
+pub made_prefix : {X : Type 0} (steps : List X) (made begun : ℕ)
+    → (beyond : List X) × (steps ≡ (take made steps ++ take begun (drop made steps)) ++ beyond)
 made_prefix {X} steps made begun = (
   drop begun (drop made steps),
   sym (take-append-drop made steps)
@@ -49,7 +50,8 @@ made_prefix {X} steps made begun = (
 -- so that they run as all of them do
 pub stopped_runs : {table : JobTable} (steps : List Step) (made begun : ℕ) {old new : World} →
     AreStopped table (take made steps) (take begun (drop made steps)) [] [] old new → Runs table steps old new
-stopped_runs {table} steps made begun {old} {new} stopped = prefixes_run_as_the_steps table _ steps old new (made_prefix steps made begun) stopped.run
+stopped_runs {table} steps made begun {old} {new} stopped =
+    prefixes_run_as_the_steps table _ steps old new (made_prefix steps made begun) stopped.run
 
 -- so many of the steps were made
 pub record HasMade (tells : Bool) (was now : Kept) (steps : List Step) (count : ℕ) (old new : World) : Type 0 where
@@ -59,7 +61,8 @@ pub record HasMade (tells : Bool) (was now : Kept) (steps : List Step) (count : 
   pub goes_on : tells ≡ true → TimePasses old new
   pub made : tells ≡ true → (table : JobTable) → IsCurrent was old.now.directory table → AreMade table (take count steps) [] [] now old new
 
-module _ {tells : Bool} {before : Session} {old : World} {was : Kept} {steps : List Step} (may : MayMakeSteps tells before old was steps) where
+module _ {tells : Bool} {before : Session} {old : World} {was : Kept} {steps : List Step}
+    (may : MayMakeSteps tells before old was steps) where
   pub none_made : HasMade tells was was steps 0 old old
   none_made = record {
     table_is = refl;
@@ -77,7 +80,10 @@ module _ {tells : Bool} {before : Session} {old : World} {was : Kept} {steps : L
       record {
         inside = record {
           stays = stays;
-          cause = record { later = stays.counts.file_faults; rose = λ bad. (let impossible : ◌≡◌ {A = Result Kept StoreFault} (Ok now) (Err FileFault) = bad in cc) };
+          cause = record {
+            later = stays.counts.file_faults;
+            rose = λ bad. (let impossible : ◌≡◌ {A = Result Kept StoreFault} (Ok now) (Err FileFault) = bad in cc);
+          };
         };
         faults = tt;
         table_is = has.table_is ∙ ap (after_steps was.table) all;
@@ -95,7 +101,8 @@ module _ {tells : Bool} {before : Session} {old : World} {was : Kept} {steps : L
     dropped = drop_more steps count step below ∙ ap (λ (one : Step). one ∷ drop (count + 1) steps) (sym is)
 
     taken : take (count + 1) steps ≡ take count steps ++ step ∷ []
-    taken = ap (λ (n : ℕ). take n steps) (add-one count) ∙ take-suc steps count step below ∙ ap (λ (one : Step). take count steps ++ one ∷ []) (sym is)
+    taken = ap (λ (n : ℕ). take n steps) (add-one count) ∙ take-suc steps count step below
+        ∙ ap (λ (one : Step). take count steps ++ one ∷ []) (sym is)
 
     legal : IsLegal now.table step × AreLegal (after_step now.table step) (drop (count + 1) steps)
     legal = subst (AreLegal now.table) dropped has.legal
@@ -114,9 +121,11 @@ module _ {tells : Bool} {before : Session} {old : World} {was : Kept} {steps : L
     }
 
     legal_on : (table : JobTable) → IsCurrent now middle.now.directory table → IsLegal table step
-    legal_on table current = legal_when_kept now middle.now.directory table step current (subst (IsLegal now.table) (sym (plain step changes.0).0) legal.0)
+    legal_on table current =
+        legal_when_kept now middle.now.directory table step current (subst (IsLegal now.table) (sym (plain step changes.0).0) legal.0)
 
-    goes_after : {between after : Session} {new : World} {result : Result Kept StoreFault} → MakesStep tells between after middle new now step result → tells ≡ true → TimePasses old new
+    goes_after : {between after : Session} {new : World} {result : Result Kept StoreFault}
+        → MakesStep tells between after middle new now step result → tells ≡ true → TimePasses old new
     goes_after {between} {after} {new} makes known =
         let first : (table : JobTable) × IsCurrent was old.now.directory table = may.current known in
         let call = (makes.files known _ (has.made known first.0 first.1).current).files in
@@ -124,7 +133,8 @@ module _ {tells : Bool} {before : Session} {old : World} {was : Kept} {steps : L
         record {
           asked = call.asked ∙ so_far.asked;
           handed = call.handed ∙ so_far.handed;
-          leaves = leaves_then _ old middle new so_far.leaves (leaves_weaker _ _ middle new (λ image handed left. left.1 ∙ so_far.handed) call.leaves);
+          leaves = leaves_then _ old middle new so_far.leaves
+              (leaves_weaker _ _ middle new (λ image handed left. left.1 ∙ so_far.handed) call.leaves);
         }
 
     pub one_made : {between after : Session} {last : Kept} {new : World} → MakesStep tells between after middle new now step (Ok last) →
@@ -142,7 +152,8 @@ module _ {tells : Bool} {before : Session} {old : World} {was : Kept} {steps : L
           (legal_on _ made.current) (plain step changes.0).1 (makes.files known _ made.current));
     }
 
-    pub one_stopped : {between after : Session} {fault : StoreFault} {new : World} → CallsInside {T = Kept} FileFault before after (Err fault) →
+    pub one_stopped : {between after : Session} {fault : StoreFault} {new : World}
+        → CallsInside {T = Kept} FileFault before after (Err fault) →
         MakesStep tells between after middle new now step (Err fault) → MakesSteps tells before after old new was steps count (Err fault)
     one_stopped {between} {after} {fault} {new} inside makes = record {
       inside = inside;
@@ -155,5 +166,6 @@ module _ {tells : Bool} {before : Session} {old : World} {was : Kept} {steps : L
       files = λ known table current.
           let made : AreMade table (take count steps) [] [] now old middle = has.made known table current in
           subst (λ (l : List Step). AreStopped table (take count steps) l [] [] old new) (sym (ap (λ (l : List Step). take 1 l) dropped))
-          (fault_after table (take count steps) [] [] now old middle new made step fault (legal_on _ made.current) (makes.files known _ made.current));
+          (fault_after table (take count steps) [] [] now old middle new made step fault (legal_on _ made.current)
+          (makes.files known _ made.current));
     }

@@ -20,7 +20,9 @@ journal_is_spool name (inl is) = inr (inr (inl is))
 journal_is_spool name (inr is) = inr (inl is)
 
 -- what is left alone by way of a middle directory, whose images leave others alone too
-pub leaves_through : (may_change : List ℕ → Type 0) (start middle : Directory) (image : Files) → ((name : List ℕ) → may_change name → IsSpoolName name) → ((from : Files) → IsImage middle from → LeavesOthers IsSpoolName start from) → LeavesOthers may_change middle image → LeavesOthers IsSpoolName start image
+pub leaves_through : (may_change : List ℕ → Type 0) (start middle : Directory) (image : Files)
+    → ((name : List ℕ) → may_change name → IsSpoolName name) → ((from : Files) → IsImage middle from → LeavesOthers IsSpoolName start from)
+    → LeavesOthers may_change middle image → LeavesOthers IsSpoolName start image
 leaves_through may_change start middle image spool through alone =
     let before : LeavesOthers IsSpoolName start alone.from = through alone.from alone.was in
     record {
@@ -32,12 +34,15 @@ leaves_through may_change start middle image spool through alone =
 -- Steps that were made so far.
 
 -- no step is at the start of any steps
-pub stepping_none : (table : JobTable) (steps : List Step) (start : Directory) (image : Files) → Shows image table → LeavesOthers IsSpoolName start image → IsSteppingOn table steps start image
+pub stepping_none : (table : JobTable) (steps : List Step) (start : Directory) (image : Files) → Shows image table
+    → LeavesOthers IsSpoolName start image → IsSteppingOn table steps start image
 stepping_none table steps start image shows others = record { prefix = []; is_prefix = (steps, refl); shows = shows; others = others }
 
 -- at the start none was made
-pub stepping_start : (table : JobTable) (steps : List Step) (start : Directory) → EachShows start table → (image : Files) → IsImage start image → IsSteppingOn table steps start image
-stepping_start table steps start shows image is = stepping_none table steps start image (shows image is) (left_alone IsSpoolName start image is)
+pub stepping_start : (table : JobTable) (steps : List Step) (start : Directory) → EachShows start table → (image : Files)
+    → IsImage start image → IsSteppingOn table steps start image
+stepping_start table steps start shows image is =
+    stepping_none table steps start image (shows image is) (left_alone IsSpoolName start image is)
 
 -- what is at the start of no steps is at the start of any
 prefix_of_none : (prefix steps : List Step) → IsPrefix prefix [] → IsPrefix prefix steps
@@ -45,7 +50,8 @@ prefix_of_none [] steps (after, is) = (steps, refl)
 prefix_of_none (step ∷ later) steps (after, is) = cc
 
 -- where no step was made, none of more was
-pub stepping_more : (table : JobTable) (steps : List Step) (start : Directory) (image : Files) → IsSteppingOn table [] start image → IsSteppingOn table steps start image
+pub stepping_more : (table : JobTable) (steps : List Step) (start : Directory) (image : Files) → IsSteppingOn table [] start image
+    → IsSteppingOn table steps start image
 stepping_more table steps start image stepping = record {
   prefix = stepping.prefix;
   is_prefix = prefix_of_none stepping.prefix steps stepping.is_prefix;
@@ -54,5 +60,6 @@ stepping_more table steps start image stepping = record {
 }
 
 -- the one step was made
-pub stepping_one : (table : JobTable) (step : Step) (start : Directory) (image : Files) → Shows image (after_step table step) → LeavesOthers IsSpoolName start image → IsSteppingOn table (step ∷ []) start image
+pub stepping_one : (table : JobTable) (step : Step) (start : Directory) (image : Files) → Shows image (after_step table step)
+    → LeavesOthers IsSpoolName start image → IsSteppingOn table (step ∷ []) start image
 stepping_one table step start image shows others = record { prefix = step ∷ []; is_prefix = ([], refl); shows = shows; others = others }

@@ -62,14 +62,16 @@ all_drawn_from (mark ∷ later) =
     )
 
 -- drawn numbers are named by marks with one more that names one
-pub more_drawn : (last : ℕ) (marks : List Mark) (mark : Mark) → are_drawn last marks ≡ true → is_drawn last mark ≡ true → are_drawn last (marks ++ mark ∷ []) ≡ true
+pub more_drawn : (last : ℕ) (marks : List Mark) (mark : Mark) → are_drawn last marks ≡ true → is_drawn last mark ≡ true
+    → are_drawn last (marks ++ mark ∷ []) ≡ true
 more_drawn last marks mark drawn here =
     list_all-append (is_drawn last) marks (mark ∷ []) ∙ and_from _ _ drawn (and_from (is_drawn last mark) true here refl)
 
 -- The journal of a directory that shows a table.
 
 -- what is read of a content is what it gives
-same_journal : (last : ℕ) (content : Option (List ℕ)) (read journal : JournalRead) → journal_in last content ≡ Ok read → GivesReadJournal content journal → read ≡ journal
+same_journal : (last : ℕ) (content : Option (List ℕ)) (read journal : JournalRead) → journal_in last content ≡ Ok read
+    → GivesReadJournal content journal → read ≡ journal
 same_journal last content read journal is gives =
     let rest : (least : ℕ) × ((more : ℕ) → least ≤ more → are_drawn more journal.marks ≡ true) = all_drawn_from journal.marks in
     let more : ℕ = last + rest.0 in
@@ -81,13 +83,15 @@ pub record IsShownWith (journal : JournalRead) (table : JobTable) (files : Files
   pub gives : GivesReadJournal (map.get files journal_file) journal
 
 -- so what it shows by its names is known by the marks of that journal
-pub reads_as : (journal : JournalRead) (table : JobTable) (files : Files) (is : IsShownWith journal table files) → (by_name files table is.shows).read ≡ journal
+pub reads_as : (journal : JournalRead) (table : JobTable) (files : Files) (is : IsShownWith journal table files)
+    → (by_name files table is.shows).read ≡ journal
 reads_as journal table files is =
     let shows : ShowsByName files table = by_name files table is.shows in
     same_journal table.last (map.get files journal_file) shows.read journal (journal_read files table shows) is.gives
 
 -- they name drawn numbers
-pub drawn_there : (journal : JournalRead) (table : JobTable) (files : Files) → IsShownWith journal table files → are_drawn table.last journal.marks ≡ true
+pub drawn_there : (journal : JournalRead) (table : JobTable) (files : Files) → IsShownWith journal table files
+    → are_drawn table.last journal.marks ≡ true
 drawn_there journal table files is =
     let shows : ShowsByName files table = by_name files table is.shows in
     ap (λ (read : JournalRead). are_drawn table.last read.marks) (sym (reads_as journal table files is))
@@ -118,7 +122,8 @@ pub drawn_is : (number last : ℕ) → number ≤ last → nat_le number last �
 drawn_is number last least = grind (arith, nat_tests)
 
 -- that of a live job, whose file is whole
-live_drawn : (files : Files) (table : JobTable) (number : ℕ) (job : Job) (state : JobState) → ShowsByName files table → entry_at table number ≡ Some (Live job state) → nat_le number table.last ≡ true
+live_drawn : (files : Files) (table : JobTable) (number : ℕ) (job : Job) (state : JobState) → ShowsByName files table
+    → entry_at table number ≡ Some (Live job state) → nat_le number table.last ≡ true
 live_drawn files table number job state shows is =
     let live : IsLiveBy shows.read.marks files number job state = live_in files table number job state shows is in
     drawn_is number table.last (subst (λ n. n ≤ table.last) live.number_is (shows.sound.each live.file live.is).drawn)
@@ -131,7 +136,8 @@ decides_drawn last number (Interrupted other) drawn is = grind (arith, nat_tests
 decides_drawn last number _ drawn is = cc
 
 -- so do marks
-decided_drawn : (last number : ℕ) (marks : List Mark) → are_drawn last marks ≡ true → is_decided number marks ≡ true → nat_le number last ≡ true
+decided_drawn : (last number : ℕ) (marks : List Mark) → are_drawn last marks ≡ true → is_decided number marks ≡ true
+    → nat_le number last ≡ true
 decided_drawn last number [] drawn is = cc
 decided_drawn last number (mark ∷ later) drawn is =
     let tests : (is_drawn last mark ≡ true) × (are_drawn last later ≡ true) = and_parts _ _ drawn in
@@ -141,24 +147,33 @@ decided_drawn last number (mark ∷ later) drawn is =
     ]
 
 -- that of a job that is done, which a mark decides
-done_drawn : (files : Files) (table : JobTable) (number : ℕ) (fate : Fate) → ShowsByName files table → entry_at table number ≡ Some (Done fate) → nat_le number table.last ≡ true
+done_drawn : (files : Files) (table : JobTable) (number : ℕ) (fate : Fate) → ShowsByName files table
+    → entry_at table number ≡ Some (Done fate) → nat_le number table.last ≡ true
 done_drawn files table number fate shows is =
     let done : IsDoneBy shows.read.marks number = done_in files table number fate shows is in
-    decided_drawn table.last number shows.read.marks (journal_drawn table.last (map.get files journal_file) shows.read (journal_read files table shows)) done.decided
+    decided_drawn table.last number shows.read.marks
+    (journal_drawn table.last (map.get files journal_file) shows.read (journal_read files table shows)) done.decided
 
 -- and that of each step that adds a mark
-step_drawn : (files : Files) (table : JobTable) (step : Step) (mark : Mark) → ShowsByName files table → IsLegal table step → AddsMark table step mark → is_drawn table.last mark ≡ true
-step_drawn files table (Remove number) mark shows (job, is) adds = ap (is_drawn table.last) adds ∙ live_drawn files table number job Pending shows is
-step_drawn files table (Start number second) mark shows (job, is) adds = ap (is_drawn table.last) adds.2 ∙ live_drawn files table number job Pending shows is
-step_drawn files table (End number ending) mark shows (job, second, is) adds = ap (is_drawn table.last) adds ∙ live_drawn files table number job (Running second) shows is
-step_drawn files table (Interrupt number) mark shows (job, second, is) adds = ap (is_drawn table.last) adds ∙ live_drawn files table number job (Running second) shows is
-step_drawn files table (Forget number) mark shows (fate, is) adds = ap (is_drawn table.last) adds ∙ done_drawn files table number fate shows is
+step_drawn : (files : Files) (table : JobTable) (step : Step) (mark : Mark) → ShowsByName files table → IsLegal table step
+    → AddsMark table step mark → is_drawn table.last mark ≡ true
+step_drawn files table (Remove number) mark shows (job, is) adds = ap (is_drawn table.last) adds
+    ∙ live_drawn files table number job Pending shows is
+step_drawn files table (Start number second) mark shows (job, is) adds = ap (is_drawn table.last) adds.2
+    ∙ live_drawn files table number job Pending shows is
+step_drawn files table (End number ending) mark shows (job, second, is) adds = ap (is_drawn table.last) adds
+    ∙ live_drawn files table number job (Running second) shows is
+step_drawn files table (Interrupt number) mark shows (job, second, is) adds = ap (is_drawn table.last) adds
+    ∙ live_drawn files table number job (Running second) shows is
+step_drawn files table (Forget number) mark shows (fate, is) adds = ap (is_drawn table.last) adds
+    ∙ done_drawn files table number fate shows is
 step_drawn files table _ mark shows legal adds = absurd adds
 
 -- What a change of the journal shows, where all else is the same.
 
 -- the same marks once more
-pub same_shown : (journal : JournalRead) (table : JobTable) (before after : Files) → IsShownWith journal table before → GivesReadJournal (map.get after journal_file) journal → AgreeElsewhere temporary_file journal_file before after → Shows after table
+pub same_shown : (journal : JournalRead) (table : JobTable) (before after : Files) → IsShownWith journal table before
+    → GivesReadJournal (map.get after journal_file) journal → AgreeElsewhere temporary_file journal_file before after → Shows after table
 same_shown journal table before after is gives others = rewrites_are_shown before after table is.shows (record {
   marks = journal.marks;
   free = journal.free;
@@ -168,7 +183,9 @@ same_shown journal table before after is gives others = rewrites_are_shown befor
 })
 
 -- what a compaction keeps of them
-pub compacted_shown : (journal : JournalRead) (table : JobTable) (before after : Files) → IsShownWith journal table before → HasNoForgotten journal.marks before → GivesReadJournal (map.get after journal_file) (compacted journal) → AgreeElsewhere temporary_file journal_file before after → Shows after table
+pub compacted_shown : (journal : JournalRead) (table : JobTable) (before after : Files) → IsShownWith journal table before
+    → HasNoForgotten journal.marks before → GivesReadJournal (map.get after journal_file) (compacted journal)
+    → AgreeElsewhere temporary_file journal_file before after → Shows after table
 compacted_shown journal table before after is none gives others = compactions_are_shown before after table is.shows (record {
   marks = journal.marks;
   free = 256;
@@ -179,7 +196,9 @@ compacted_shown journal table before after is none gives others = compactions_ar
 })
 
 -- one more mark
-pub added_shown : (journal : JournalRead) (table : JobTable) (step : Step) (mark : Mark) (before after : Files) → IsShownWith journal table before → IsLegal table step → AddsMark table step mark → GivesReadJournal (map.get after journal_file) (added journal mark) → AgreeElsewhere temporary_file journal_file before after → Shows after (after_step table step)
+pub added_shown : (journal : JournalRead) (table : JobTable) (step : Step) (mark : Mark) (before after : Files) → IsShownWith journal
+    table before → IsLegal table step → AddsMark table step mark → GivesReadJournal (map.get after journal_file) (added journal mark)
+    → AgreeElsewhere temporary_file journal_file before after → Shows after (after_step table step)
 added_shown journal table step mark before after is legal adds gives others =
     let drawn : is_drawn table.last mark ≡ true = step_drawn before table step mark (by_name before table is.shows) legal adds in
     marks_are_shown before after table step mark is.shows legal adds (record {

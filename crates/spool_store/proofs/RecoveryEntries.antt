@@ -47,7 +47,8 @@ start_in_range number (Forgotten other) writable = tt
 start_in_range number (Batch second) writable = tt
 
 -- the first of two does where both do
-either_in_range : (one other : Option ℤ) → IfSome one IsClockSecond → IfSome other IsClockSecond → IfSome (option_or one other) IsClockSecond
+either_in_range : (one other : Option ℤ) → IfSome one IsClockSecond → IfSome other IsClockSecond
+    → IfSome (option_or one other) IsClockSecond
 either_in_range (Some second) other here there = here
 either_in_range None other here there = there
 
@@ -56,7 +57,8 @@ since_in_range : (number : ℕ) (marks : List Mark) → AreWritable marks → If
 since_in_range number [] writable = tt
 since_in_range number (mark ∷ later) writable =
     either_in_range (start_second number mark) (started_at number later)
-    (start_in_range number mark (All-head IsWritable mark later writable)) (since_in_range number later (All-tail IsWritable mark later writable))
+    (start_in_range number mark (All-head IsWritable mark later writable))
+    (since_in_range number later (All-tail IsWritable mark later writable))
 
 -- the second of a start in a batch queue
 batch_in_range : (mark : Mark) → IsWritable mark → IfSome (batch_second mark) IsClockSecond
@@ -71,7 +73,8 @@ batch_in_range (Interrupted number) writable = tt
 batch_in_range (Forgotten number) writable = tt
 
 -- the same of two as the last batch start is chosen
-last_in_range : (one other : Option ℤ) → IfSome one IsClockSecond → IfSome other IsClockSecond → IfSome (first_of_two one other) IsClockSecond
+last_in_range : (one other : Option ℤ) → IfSome one IsClockSecond → IfSome other IsClockSecond
+    → IfSome (first_of_two one other) IsClockSecond
 last_in_range (Some second) other here there = here
 last_in_range None other here there = there
 
@@ -90,15 +93,18 @@ runs_since (Some second) in_range = in_range
 runs_since None in_range = tt
 
 -- the marks of a number that is not finished tell of its state
-state_by : (marks : List Mark) (number : ℕ) (since : Option ℤ) → started_at number marks ≡ since → AreLegalMarks marks → is_decided number marks ≡ false → IsStateBy marks number (state_since since)
+state_by : (marks : List Mark) (number : ℕ) (since : Option ℤ) → started_at number marks ≡ since → AreLegalMarks marks
+    → is_decided number marks ≡ false → IsStateBy marks number (state_since since)
 state_by marks number None is legal undecided = unnamed number marks undecided (not_forgotten marks number legal undecided) is
 state_by marks number (Some second) is legal undecided =
     and_from _ (not (is_decided number marks)) (is_started_since number marks second is) (ap not undecided)
 
 -- a number whose fate is remembered is finished and not forgotten
-remembered_is : (marks : List Mark) (number : ℕ) (fate : Fate) → remembered_at number marks ≡ Some fate → (is_decided number marks ≡ true) × (is_forgotten number marks ≡ false)
+remembered_is : (marks : List Mark) (number : ℕ) (fate : Fate) → remembered_at number marks ≡ Some fate
+    → (is_decided number marks ≡ true) × (is_forgotten number marks ≡ false)
 remembered_is marks number fate is = by_test (is_forgotten number marks) refl is where
-  by_test : (forgotten : Bool) → is_forgotten number marks ≡ forgotten → cond forgotten None (fate_at number marks) ≡ Some fate → (is_decided number marks ≡ true) × (is_forgotten number marks ≡ false)
+  by_test : (forgotten : Bool) → is_forgotten number marks ≡ forgotten → cond forgotten None (fate_at number marks) ≡ Some fate
+      → (is_decided number marks ≡ true) × (is_forgotten number marks ≡ false)
   by_test true forgotten none = cc
   by_test false kept given = (decided_has_fate number marks ∙ ap is_some given, kept)
 
@@ -115,7 +121,8 @@ pub record HasScanned (last : ℕ) (marks : List Mark) (files : List JobFile) : 
   pub whole : damage_of_jobs last marks files ≡ None
 
 -- a file that was seen has the name of a job in range
-pub scanned_named : (scanned : List ScannedJob) (file : JobFile) → Has (files_scanned scanned) file → IsInRange file.job.queue file.job.number file.job.minute
+pub scanned_named : (scanned : List ScannedJob) (file : JobFile) → Has (files_scanned scanned) file
+    → IsInRange file.job.queue file.job.number file.job.minute
 scanned_named scanned file has =
     let of : (one : ScannedJob) × Has scanned one × (file_scanned one ≡ file) = made_has file_scanned scanned file has in
     subst (λ (f : JobFile). IsInRange f.job.queue f.job.number f.job.minute) of.2
@@ -123,55 +130,74 @@ scanned_named scanned file has =
 
 -- the entry of a number with this file and this fate
 abbrev entry_of : List Mark → Option JobFile → Option Fate → Option JobEntry
-entry_of marks found given = option_map entry_without_script (option_or (option_map (λ file. (live_entry marks file).1) found) (option_map Done given))
+entry_of marks found given =
+    option_map entry_without_script (option_or (option_map (λ file. (live_entry marks file).1) found) (option_map Done given))
 
 module _ (last : ℕ) (marks : List Mark) (files : List JobFile) (scanned : HasScanned last marks files) where
   -- the marks say of the job of a file
-  live_by : (file : JobFile) → Has files file → IsLiveBy marks file.job.number (job_without_script (job_of file)) (state_since (started_at file.job.number marks))
+  live_by : (file : JobFile) → Has files file
+      → IsLiveBy marks file.job.number (job_without_script (job_of file)) (state_since (started_at file.job.number marks))
   live_by file has = record {
     named = record { letter = (scanned.named file has).letter; in_calendar = (scanned.named file has).in_calendar };
     since = runs_since (started_at file.job.number marks) (since_in_range file.job.number marks scanned.writable);
-    state_by = state_by marks file.job.number (started_at file.job.number marks) refl scanned.legal (scanned.undecided file (contained files file has));
+    state_by = state_by marks file.job.number (started_at file.job.number marks) refl scanned.legal
+        (scanned.undecided file (contained files file has));
   }
 
   -- and of each entry
-  entry_by : (number : ℕ) (found : Option JobFile) (given : Option Fate) → file_of number files ≡ found → remembered_at number marks ≡ given → IsEntryBy marks number (entry_of marks found given)
+  entry_by : (number : ℕ) (found : Option JobFile) (given : Option Fate) → file_of number files ≡ found → remembered_at number marks ≡ given
+      → IsEntryBy marks number (entry_of marks found given)
   entry_by number (Some file) given is other =
-      let there : Has files file × ((file.job.number == number) ≡ true) = found_has (λ (f : JobFile). f.job.number == number) files file is in
-      subst (λ at. IsLiveBy marks at (job_without_script (job_of file)) (state_since (started_at file.job.number marks))) (eqb-true file.job.number number there.1) (live_by file there.0)
+      let there : Has files file × ((file.job.number == number) ≡ true) =
+      found_has (λ (f : JobFile). f.job.number == number) files file is in
+      subst (λ at. IsLiveBy marks at (job_without_script (job_of file)) (state_since (started_at file.job.number marks)))
+      (eqb-true file.job.number number there.1) (live_by file there.0)
   entry_by number None (Some fate) is other =
       let both = remembered_is marks number fate other in
       and_from (is_decided number marks) (not (is_forgotten number marks)) both.0 (ap not both.1)
   entry_by number None None is other = tt
 
   -- a number with an entry was drawn
-  number_in : (number : ℕ) (found : Option JobFile) (given : Option Fate) → file_of number files ≡ found → remembered_at number marks ≡ given → IsSome (entry_of marks found given) → IsDrawnBy last number
+  number_in : (number : ℕ) (found : Option JobFile) (given : Option Fate) → file_of number files ≡ found
+      → remembered_at number marks ≡ given → IsSome (entry_of marks found given) → IsDrawnBy last number
   number_in number (Some file) given is other some =
-      let there : Has files file × ((file.job.number == number) ≡ true) = found_has (λ (f : JobFile). f.job.number == number) files file is in
+      let there : Has files file × ((file.job.number == number) ≡ true) =
+      found_has (λ (f : JobFile). f.job.number == number) files file is in
       let whole = (neither_first _ (starts_damage marks files 0 marks) scanned.whole).0 in
       subst (IsDrawnBy last) (eqb-true file.job.number number there.1)
       ((scanned.named file there.0).drawn, (fine_is_whole last [] files file (no_damage_is_fine last [] files whole) there.0).drawn)
-  number_in number None (Some fate) is other some = number_drawn last marks number scanned.writable scanned.drawn (remembered_is marks number fate other).0
+  number_in number None (Some fate) is other some =
+      number_drawn last marks number scanned.writable scanned.drawn (remembered_is marks number fate other).0
   number_in number None None is other some = let impossible : false ≡ true = some in cc
 
   -- what the table has under a number
-  under : (number : ℕ) → entry_at (without_scripts (table_shown last marks files)) number ≡ entry_of marks (file_of number files) (remembered_at number marks)
+  under : (number : ℕ) → entry_at (without_scripts (table_shown last marks files)) number
+      ≡ entry_of marks (file_of number files) (remembered_at number marks)
   under number = at_shown last marks files number ∙ ap (option_map entry_without_script) (found_shown number marks files)
 
   -- what was seen is what a store keeps
-  pub is_stored : (table : JobTable) → IsTableShown last marks files table → (free : ℕ) (old_form : List ℕ) → AreInOldForm old_form → IsStored (record { table = table; journal = record { marks = marks; free = free }; old_form = old_form })
+  pub is_stored : (table : JobTable) → IsTableShown last marks files table → (free : ℕ) (old_form : List ℕ) → AreInOldForm old_form
+      → IsStored (record { table = table; journal = record { marks = marks; free = free }; old_form = old_form })
   unfolding without_scripts
-  is_stored table shown free old_form are_old_form = subst (λ one. IsStored (record { table = one; journal = record { marks = marks; free = free }; old_form = old_form })) (sym shown.1) stored where
-    stored : IsStored (record { table = without_scripts (table_shown last marks files); journal = record { marks = marks; free = free }; old_form = old_form })
-    stored = record {
-      sound = record {
-        few = scanned.few;
-        each = λ number some.
-            let drawn = number_in number (file_of number files) (remembered_at number marks) refl refl (subst IsSome (under number) some) in
-            record { some = drawn.0; drawn = drawn.1 };
-      };
-      drawn = scanned.drawn;
-      entries = λ number. subst (IsEntryBy marks number) (sym (under number)) (entry_by number (file_of number files) (remembered_at number marks) refl refl);
-      batch = last_batch_in_range marks scanned.writable;
-      old_form = are_old_form;
-    }
+  is_stored table shown free old_form are_old_form = subst (λ one.
+      IsStored (record { table = one; journal = record { marks = marks; free = free }; old_form = old_form })) (sym shown.1) stored
+    where
+      stored : IsStored (record {
+        table = without_scripts (table_shown last marks files);
+        journal = record { marks = marks; free = free };
+        old_form = old_form;
+      })
+      stored = record {
+        sound = record {
+          few = scanned.few;
+          each = λ number some.
+              let drawn =
+              number_in number (file_of number files) (remembered_at number marks) refl refl (subst IsSome (under number) some) in
+              record { some = drawn.0; drawn = drawn.1 };
+        };
+        drawn = scanned.drawn;
+        entries = λ number. subst (IsEntryBy marks number) (sym (under number))
+            (entry_by number (file_of number files) (remembered_at number marks) refl refl);
+        batch = last_batch_in_range marks scanned.writable;
+        old_form = are_old_form;
+      }

@@ -46,7 +46,8 @@ pub temporary_left : (marks : List Mark) → is_left_over marks temporary_file �
 temporary_left marks = refl
 
 -- so is that of a finished job
-pub decided_left : (marks : List Mark) (name : List ℕ) (job : NamedJob) → job_named name ≡ Some job → is_decided job.number marks ≡ true → is_left_over marks name ≡ true
+pub decided_left : (marks : List Mark) (name : List ℕ) (job : NamedJob) → job_named name ≡ Some job → is_decided job.number marks ≡ true
+    → is_left_over marks name ≡ true
 decided_left marks name job named decided =
     ap (λ one. pointwise nat_eq name temporary_file || is_decided_job marks one) named
     ∙ ap (λ b. pointwise nat_eq name temporary_file || b) decided ∙ or_true (pointwise nat_eq name temporary_file)

@@ -34,20 +34,23 @@ up_to_more (first ∷ list) above more below over =
     let one : first ≤ above = below.0 in
     (omega arith, up_to_more list above more below.1 over)
 
-rise_last : (list : List ℕ) (above number : ℕ) → AreAscending list → AreUpTo above list → above < number → AreAscending (list ++ number ∷ [])
+rise_last : (list : List ℕ) (above number : ℕ) → AreAscending list → AreUpTo above list → above < number
+    → AreAscending (list ++ number ∷ [])
 rise_last [] above number rise below over = rise_with number [] tt rise_none
 rise_last (first ∷ list) above number rise below over =
     let one : first ≤ above = below.0 in
     let less : first < number = omega arith in
     rise_with first (list ++ number ∷ [])
-    (all_push (λ other. nat_cmp first other ≡ Less) list number (sorted_head nat_cmp first list rise) (sym (nat_cmp_is first number Less less)))
+    (all_push (λ other. nat_cmp first other ≡ Less) list number (sorted_head nat_cmp first list rise)
+    (sym (nat_cmp_is first number Less less)))
     (rise_last list above number (sorted_tail nat_cmp first list rise) below.1 over)
 
 -- a number above all has no row
 absent : (rows : RowMap) (above number : ℕ) → AreUpTo above (numbers rows) → above < number → row_in_map rows number ≡ None
 absent [] above number below over = refl
 absent (first ∷ rows) above number below over = by_test (is_at (nat_cmp number) first.0) refl (absent rows above number below.1 over) where
-  by_test : (at : Bool) → is_at (nat_cmp number) first.0 ≡ at → row_in_map rows number ≡ None → cond at (Some first.1) (row_in_map rows number) ≡ None
+  by_test : (at : Bool) → is_at (nat_cmp number) first.0 ≡ at → row_in_map rows number ≡ None
+      → cond at (Some first.1) (row_in_map rows number) ≡ None
   by_test true at rest =
       let same : number ≡ first.0 = key_is number first.0 at in
       let one : first.0 ≤ above = below.0 in
@@ -57,17 +60,22 @@ absent (first ∷ rows) above number below over = by_test (is_at (nat_cmp number
 at_last : (rows : RowMap) (row : Row) (number : ℕ) → (is_at (nat_cmp number) row.number ≡ true → row_in_map rows number ≡ None)
     → row_in_map (rows ++ (row.number, row) ∷ []) number ≡ cond (is_at (nat_cmp number) row.number) (Some row) (row_in_map rows number)
 at_last [] row number none = refl
-at_last (first ∷ rows) row number none = by_test (is_at (nat_cmp number) first.0) (is_at (nat_cmp number) row.number) none (at_last rows row number) where
-  by_test : (here last : Bool) → (last ≡ true → cond here (Some first.1) (row_in_map rows number) ≡ None)
-      → ((last ≡ true → row_in_map rows number ≡ None) → row_in_map (rows ++ (row.number, row) ∷ []) number ≡ cond last (Some row) (row_in_map rows number))
-      → cond here (Some first.1) (row_in_map (rows ++ (row.number, row) ∷ []) number) ≡ cond last (Some row) (cond here (Some first.1) (row_in_map rows number))
-  by_test true true none rest = absurd (let impossible : Some first.1 ≡ None = none refl in cc)
-  by_test true false none rest = refl
-  by_test false last none rest = rest none
+at_last (first ∷ rows) row number none =
+    by_test (is_at (nat_cmp number) first.0) (is_at (nat_cmp number) row.number) none (at_last rows row number)
+  where
+    by_test : (here last : Bool) → (last ≡ true → cond here (Some first.1) (row_in_map rows number) ≡ None)
+        → ((last ≡ true → row_in_map rows number ≡ None)
+        → row_in_map (rows ++ (row.number, row) ∷ []) number ≡ cond last (Some row) (row_in_map rows number))
+        → cond here (Some first.1) (row_in_map (rows ++ (row.number, row) ∷ []) number)
+        ≡ cond last (Some row) (cond here (Some first.1) (row_in_map rows number))
+    by_test true true none rest = absurd (let impossible : Some first.1 ≡ None = none refl in cc)
+    by_test true false none rest = refl
+    by_test false last none rest = rest none
 
 same_way : (one other : ℕ) → is_at (nat_cmp one) other ≡ is_at (nat_cmp other) one
 same_way one other = by_test (is_at (nat_cmp one) other) refl (is_at (nat_cmp other) one) refl where
-  by_test : (at : Bool) → is_at (nat_cmp one) other ≡ at → (back : Bool) → is_at (nat_cmp other) one ≡ back → is_at (nat_cmp one) other ≡ is_at (nat_cmp other) one
+  by_test : (at : Bool) → is_at (nat_cmp one) other ≡ at → (back : Bool) → is_at (nat_cmp other) one ≡ back
+      → is_at (nat_cmp one) other ≡ is_at (nat_cmp other) one
   by_test true at true back = at ∙ sym back
   by_test true at false back =
       let impossible : true ≡ false = sym (equal_self one) ∙ ap (λ n. is_at (nat_cmp n) one) (key_is one other at) ∙ back in
@@ -78,18 +86,22 @@ same_way one other = by_test (is_at (nat_cmp one) other) refl (is_at (nat_cmp ot
   by_test false at false back = at ∙ sym back
 
 -- a row with a number above all, put last
-pushed : (rows : RowMap) (row : Row) (above : ℕ) → AreUpTo above (numbers rows) → above < row.number → IsRowInserted rows (rows ++ (row.number, row) ∷ []) row
+pushed : (rows : RowMap) (row : Row) (above : ℕ) → AreUpTo above (numbers rows) → above < row.number
+    → IsRowInserted rows (rows ++ (row.number, row) ∷ []) row
 pushed rows row above below over number =
     at_last rows row number (λ at. absent rows above number below (subst (λ n. above < n) (sym (key_is number row.number at)) over))
     ∙ ap (λ b. cond b (Some row) (row_in_map rows number)) (same_way number row.number)
 
 -- a file with a number above all has one that no file before it has
-pub fresh : (marks : List Mark) (files : List JobFile) (rows : List Row) (above number : ℕ) → AreRowsOf marks files (rows_by_number rows) → AreUpTo above (numbers (rows_by_number rows)) → above < number
+pub fresh : (marks : List Mark) (files : List JobFile) (rows : List Row) (above number : ℕ) → AreRowsOf marks files (rows_by_number rows)
+    → AreUpTo above (numbers (rows_by_number rows)) → above < number
     → IsTaken (scanned_numbers [] files) number false
-fresh marks files rows above number are below over = sym (ap is_some (absent (rows_by_number rows) above number below over)) ∙ rows_have marks files (rows_by_number rows) are number
+fresh marks files rows above number are below over = sym (ap is_some (absent (rows_by_number rows) above number below over))
+    ∙ rows_have marks files (rows_by_number rows) are number
 
 -- no file yet
-pub rising_none : (last : ℕ) (marks : List Mark) (files : List JobFile) (rows : List Row) → rows ≡ [] → IsRisingSoFar last marks files 0 0 rows
+pub rising_none : (last : ℕ) (marks : List Mark) (files : List JobFile) (rows : List Row) → rows ≡ []
+    → IsRisingSoFar last marks files 0 0 rows
 rising_none last marks files rows is = subst (IsRisingSoFar last marks files 0 0) (sym is) (record {
   so_far = record { damage = refl; rows_are = λ number. refl };
   rise = rise_none;
@@ -97,21 +109,27 @@ rising_none last marks files rows is = subst (IsRisingSoFar last marks files 0 0
 })
 
 -- one more file
-pub rising_more : (last : ℕ) (marks : List Mark) (files : List JobFile) (place above : ℕ) (rows new : List Row) (file : JobFile) (row : Row) → place < length files → get_or files place file ≡ file → IsRisingSoFar last marks files place above rows
-    → above < file.job.number → IsRowOrDamage last (scanned_numbers [] (take place files)) marks file (Ok row) → new ≡ rows ++ row ∷ [] → IsRisingSoFar last marks files (place + 1) row.number new
+pub rising_more : (last : ℕ) (marks : List Mark) (files : List JobFile) (place above : ℕ) (rows new : List Row) (file : JobFile) (row : Row)
+    → place < length files → get_or files place file ≡ file → IsRisingSoFar last marks files place above rows
+    → above < file.job.number → IsRowOrDamage last (scanned_numbers [] (take place files)) marks file (Ok row) → new ≡ rows ++ row ∷ []
+    → IsRisingSoFar last marks files (place + 1) row.number new
 rising_more last marks files place above rows new file row inside at rising over whole is =
     let over_row : above < row.number = subst (λ n. above < n) (sym (ap (λ (r : Row). r.number) whole.1)) over in
-    let made : rows_by_number new ≡ rows_by_number rows ++ (row.number, row) ∷ [] = ap rows_by_number is ∙ map-append (λ (r : Row). (r.number, r)) rows (row ∷ []) in
-    let keys : numbers (rows_by_number new) ≡ numbers (rows_by_number rows) ++ row.number ∷ [] = ap numbers made ∙ map-append (λ (under : ℕ × Row). under.0) (rows_by_number rows) ((row.number, row) ∷ []) in
+    let made : rows_by_number new ≡ rows_by_number rows ++ (row.number, row) ∷ [] = ap rows_by_number is
+    ∙ map-append (λ (r : Row). (r.number, r)) rows (row ∷ []) in
+    let keys : numbers (rows_by_number new) ≡ numbers (rows_by_number rows) ++ row.number ∷ [] = ap numbers made
+    ∙ map-append (λ (under : ℕ × Row). under.0) (rows_by_number rows) ((row.number, row) ∷ []) in
     record {
       so_far = so_far_more last marks files place (rows_by_number rows) (rows_by_number new) file row inside at rising.so_far whole
           (λ number. ap (λ list. row_in_map list number) made ∙ pushed (rows_by_number rows) row above rising.below over_row number);
       rise = subst AreAscending (sym keys) (rise_last (numbers (rows_by_number rows)) above row.number rising.rise rising.below over_row);
-      below = subst (AreUpTo row.number) (sym keys) (all_push (λ n. n ≤ row.number) (numbers (rows_by_number rows)) row.number (up_to_more (numbers (rows_by_number rows)) above row.number rising.below (omega arith)) (omega arith));
+      below = subst (AreUpTo row.number) (sym keys) (all_push (λ n. n ≤ row.number) (numbers (rows_by_number rows)) row.number
+          (up_to_more (numbers (rows_by_number rows)) above row.number rising.below (omega arith)) (omega arith));
     }
 
 -- all files
-pub rising_all : (last : ℕ) (marks : List Mark) (files : List JobFile) (place above : ℕ) (rows : List Row) → length files ≤ place → IsRisingSoFar last marks files place above rows → HaveRows last marks files rows
+pub rising_all : (last : ℕ) (marks : List Mark) (files : List JobFile) (place above : ℕ) (rows : List Row) → length files ≤ place
+    → IsRisingSoFar last marks files place above rows → HaveRows last marks files rows
 rising_all last marks files place above rows after rising =
     let all = so_far_all last marks files place (rows_by_number rows) after rising.so_far in
     (all.0, record { are = all.1; rise = rising.rise })

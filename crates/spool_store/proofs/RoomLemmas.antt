@@ -31,19 +31,22 @@ use Rattle.spool_store.proofs.MarkingLemmas.{IsShownWith, compacted_shown, legal
 -- The names are synced.
 
 -- what the images of before have, those of each moment of a sync have
-synced_within : (P : Files → Type 0) (directory : Directory) → ((image : Files) → IsImage directory image → P image) → (image : Files) → IsWithin HasNamesSynced directory image → P image
+synced_within : (P : Files → Type 0) (directory : Directory) → ((image : Files) → IsImage directory image → P image) → (image : Files)
+    → IsWithin HasNamesSynced directory image → P image
 synced_within P directory each image (inl is) = each image is
 synced_within P directory each image (inr (new, synced, is)) =
     each image (names_durable directory image (subst (λ (at : Directory). IsImage at image) synced is))
 
 -- so no step is made by it
-pub sync_stepping : {T : Type 0} (table : JobTable) (old new : World) (result : Result T HostFault) → EachShows old.now.directory table → FileCall HasNamesSynced IsSyncedInPart old new result → ChangesFiles (IsSteppingOn table [] old.now.directory) old new
+pub sync_stepping : {T : Type 0} (table : JobTable) (old new : World) (result : Result T HostFault) → EachShows old.now.directory table
+    → FileCall HasNamesSynced IsSyncedInPart old new result → ChangesFiles (IsSteppingOn table [] old.now.directory) old new
 sync_stepping table old new result shows call =
     changes_then _ HasNamesSynced IsSyncedInPart old old new result (changes_none _ old) call
     (synced_within _ old.now.directory (stepping_start table [] old.now.directory shows))
 
 -- a directory whose names are durable has images of before alone, and reads as before
-synced_current : (kept : Kept) (directory : Directory) (table : JobTable) → IsCurrent kept directory table → IsCurrent kept (with_names_durable directory) table
+synced_current : (kept : Kept) (directory : Directory) (table : JobTable) → IsCurrent kept directory table
+    → IsCurrent kept (with_names_durable directory) table
 synced_current kept directory table current = record {
   shows = λ image is. current.shows image (names_durable directory image is);
   without_scripts_is = current.without_scripts_is;
@@ -59,21 +62,26 @@ synced_current kept directory table current = record {
 }
 
 -- so what is kept is current still
-pub sync_current : (kept : Kept) (old new : Directory) (table : JobTable) → IsCurrent kept old table → HasNamesSynced old new → IsCurrent kept new table
+pub sync_current : (kept : Kept) (old new : Directory) (table : JobTable) → IsCurrent kept old table → HasNamesSynced old new
+    → IsCurrent kept new table
 sync_current kept old new table current synced =
     subst (λ (directory : Directory). IsCurrent kept directory table) (sym synced) (synced_current kept old table current)
 
 -- where no change of names is pending, what the reading lacks each image lacks
-pub absent_there : (directory : Directory) (image : Files) (name : List ℕ) → directory.pending ≡ [] → IsImage directory image → map.get (reading_of directory) name ≡ None → map.get image name ≡ None
+pub absent_there : (directory : Directory) (image : Files) (name : List ℕ) → directory.pending ≡ [] → IsImage directory image
+    → map.get (reading_of directory) name ≡ None → map.get image name ≡ None
 absent_there directory image name durable is absent =
     let held : map.get (names_of directory) name ≡ None =
-    nothing_holds directory.body (map.get (names_of directory) name) (subst (MayHoldAt directory.body (map.get (names_of directory) name)) absent (reading_holds directory.body (names_of directory) name)) in
+    nothing_holds directory.body (map.get (names_of directory) name) (subst (MayHoldAt directory.body (map.get (names_of directory) name))
+    absent (reading_holds directory.body (names_of directory) name)) in
     let names : is.names ≡ names_of directory = durable_names directory.pending directory.durable is.names durable is.chosen in
     none_holds directory.body (map.get image name)
-    (subst (λ found. MayHoldAt directory.body found (map.get image name)) (ap (λ (list : Names). map.get list name) names ∙ held) (is.each name))
+    (subst (λ found. MayHoldAt directory.body found (map.get image name))
+    (ap (λ (list : Names). map.get list name) names ∙ held) (is.each name))
 
 -- an image of a current directory shows the table with the journal
-pub shown_with : (old_form : List ℕ) (journal : JournalRead) (directory : Directory) (table : JobTable) → IsCurrent (kept_with old_form journal table) directory table → (image : Files) → IsImage directory image → IsShownWith journal table image
+pub shown_with : (old_form : List ℕ) (journal : JournalRead) (directory : Directory) (table : JobTable) → IsCurrent
+    (kept_with old_form journal table) directory table → (image : Files) → IsImage directory image → IsShownWith journal table image
 shown_with old_form journal directory table current image is = record {
   shows = current.shows image is;
   gives = subst (λ content. GivesReadJournal content journal) (sym (current.journal.same image is)) current.journal.gives;
@@ -82,26 +90,31 @@ shown_with old_form journal directory table current image is = record {
 -- While the journal changes.
 
 -- at the start each image has what the directory holds
-pub changing_start : (before after : JournalRead) (middle : Directory) → HoldsJournal before middle → (image : Files) → IsImage middle image → IsChanging before after middle image
+pub changing_start : (before after : JournalRead) (middle : Directory) → HoldsJournal before middle → (image : Files) → IsImage middle image
+    → IsChanging before after middle image
 changing_start before after middle holds image is = record {
   alone = record { from = image; was = is; others = λ name other. refl };
   gives = inl (subst (λ content. GivesReadJournal content before) (sym (holds.same image is)) holds.gives);
 }
 
 -- the sequence file is that of the directory before it
-pub sequence_still : (before after : JournalRead) (kept : Kept) (table : JobTable) (middle new : Directory) (image : Files) → IsCurrent kept middle table → KeepsFiles middle new → IsChanging before after middle image → map.get image sequence_file ≡ map.get (reading_of new) sequence_file
+pub sequence_still : (before after : JournalRead) (kept : Kept) (table : JobTable) (middle new : Directory) (image : Files)
+    → IsCurrent kept middle table → KeepsFiles middle new → IsChanging before after middle image
+    → map.get image sequence_file ≡ map.get (reading_of new) sequence_file
 sequence_still before after kept table middle new image current keeps changing =
     changing.alone.others sequence_file sequence_apart
     ∙ current.sequence changing.alone.from changing.alone.was
     ∙ sym (keeps sequence_file sequence_apart)
 
 -- and no file of a finished number comes back
-pub decided_still : (marks : List Mark) (old new : Directory) → KeepsFiles old new → HasNoDecidedFile marks (reading_of old) → HasNoDecidedFile marks (reading_of new)
+pub decided_still : (marks : List Mark) (old new : Directory) → KeepsFiles old new → HasNoDecidedFile marks (reading_of old)
+    → HasNoDecidedFile marks (reading_of new)
 decided_still marks old new keeps none name job named decided =
     keeps name (job_name_apart temporary_file journal_file name job temporary_no_job journal_no_job named) ∙ none name job named decided
 
 -- and the names of files have the forms that are kept
-pub forms_still : (old_form : List ℕ) (last : ℕ) (old new : Directory) → KeepsFiles old new → HaveForms old_form last (reading_of old) → HaveForms old_form last (reading_of new)
+pub forms_still : (old_form : List ℕ) (last : ℕ) (old new : Directory) → KeepsFiles old new → HaveForms old_form last (reading_of old)
+    → HaveForms old_form last (reading_of new)
 forms_still old_form last old new keeps forms = record {
   each = λ name job named there. forms.each name job named
       (subst IsSome (keeps name (job_name_apart temporary_file journal_file name job temporary_no_job journal_no_job named)) there);
@@ -117,7 +130,8 @@ pub record IsCompacting (old_form : List ℕ) (journal : JournalRead) (table : J
   pub syncs : ChangesFiles (IsSteppingOn table [] first.now.directory) first second
   pub compacts : ChangesFiles (IsChanging journal (compacted journal) second.now.directory) second third
 
-module _ (old_form : List ℕ) (journal : JournalRead) (table : JobTable) (first second third : World) (compacting : IsCompacting old_form journal table first second third) where
+module _ (old_form : List ℕ) (journal : JournalRead) (table : JobTable) (first second third : World)
+    (compacting : IsCompacting old_form journal table first second third) where
   abbrev start : Directory
   start = first.now.directory
 
@@ -154,7 +168,8 @@ module _ (old_form : List ℕ) (journal : JournalRead) (table : JobTable) (first
 
   -- images of the middle are images of the start
   through : (from : Files) → IsImage middle from → LeavesOthers IsSpoolName start from
-  through from is = left_alone IsSpoolName start from (names_durable start from (subst (λ (directory : Directory). IsImage directory from) compacting.synced is))
+  through from is = left_alone IsSpoolName start from
+      (names_durable start from (subst (λ (directory : Directory). IsImage directory from) compacting.synced is))
 
   -- through both runs no step is made
   pub compact_stepping : ChangesFiles (IsSteppingOn table [] start) first third
@@ -164,7 +179,8 @@ module _ (old_form : List ℕ) (journal : JournalRead) (table : JobTable) (first
       (leaves_through (IsEither temporary_file journal_file) start middle image journal_is_spool through changing.alone))
 
   -- once it is compacted, what is kept is current
-  current_after : IsChanged (compacted journal) middle third.now.directory → IsCurrent (kept_with old_form (compacted journal) table) third.now.directory table
+  current_after : IsChanged (compacted journal) middle third.now.directory
+      → IsCurrent (kept_with old_form (compacted journal) table) third.now.directory table
   current_after changed =
       let each : (image : Files) → IsImage third.now.directory image → IsChanging journal (compacted journal) middle image =
       changes_end _ second third compacting.compacts (changing_start journal (compacted journal) middle now_current.journal) in
@@ -172,13 +188,17 @@ module _ (old_form : List ℕ) (journal : JournalRead) (table : JobTable) (first
         shows = λ image is. shows_still image (each image is);
         without_scripts_is = refl;
         journal = changed.holds;
-        sequence = λ image is. sequence_still journal (compacted journal) (kept_with old_form journal table) table middle third.now.directory image now_current changed.others (each image is);
+        sequence = λ image is. sequence_still journal (compacted journal) (kept_with old_form journal table) table middle
+            third.now.directory image now_current changed.others (each image is);
         decided = decided_still (kept_marks journal.marks) middle third.now.directory changed.others
             (λ name job named decided. now_current.decided name job named (kept_decided journal.marks job.number legal decided));
         forms = forms_still old_form table.last middle third.now.directory changed.others now_current.forms;
       }
 
   -- by the answer of the call
-  pub compact_current : (result : Result JournalRead HostFault) → IfOk result (λ new. new ≡ compacted journal) → OnOk result (IsChanged (compacted journal) middle third.now.directory) → IfOk result (λ new. IsCurrent (kept_with old_form new table) third.now.directory table)
+  pub compact_current : (result : Result JournalRead HostFault) → IfOk result (λ new. new ≡ compacted journal)
+      → OnOk result (IsChanged (compacted journal) middle third.now.directory)
+      → IfOk result (λ new. IsCurrent (kept_with old_form new table) third.now.directory table)
   compact_current (Err fault) made changed = tt
-  compact_current (Ok new) made changed = subst (λ (read : JournalRead). IsCurrent (kept_with old_form read table) third.now.directory table) (sym made) (current_after changed)
+  compact_current (Ok new) made changed =
+      subst (λ (read : JournalRead). IsCurrent (kept_with old_form read table) third.now.directory table) (sym made) (current_after changed)

@@ -8,7 +8,8 @@ use Rattle.job_script.proofs.HeaderInLemmas.{header_in-none, header_in-some, hea
 use Rattle.spool_shows.specs.JobFiles.{header_fault_in}
 use Rattle.spool_shows.specs.Shown.{user_of}
 
-pub user_read : (bytes user : List ℕ) (mail : Bool) → BeginsWithHeader bytes user mail → (header_fault_in bytes (header_in bytes) ≡ None) × (user_of (header_in bytes) ≡ user)
+pub user_read : (bytes user : List ℕ) (mail : Bool) → BeginsWithHeader bytes user mail
+    → (header_fault_in bytes (header_in bytes) ≡ None) × (user_of (header_in bytes) ≡ user)
 user_read bytes user mail begins =
     let is : header_in bytes ≡ Some (user, mail) = (header_in-some bytes user mail).1 begins in
     (ap (header_fault_in bytes) is, ap user_of is)
@@ -26,7 +27,8 @@ one_fault bytes place other one two = by_test (nat_lt place other) refl (nat_lt 
   by_test false is true also = absurd (two.longest place (is_less other place also) one.within one.prefix)
   by_test false is false also = neither_less place other is also
 
-pub place_read : (bytes : List ℕ) (found : Option ℕ) → MatchOption found (HasHeader bytes) (IsHeaderFault bytes) → ¬ HasHeader bytes → header_fault_in bytes (header_in bytes) ≡ Some (unwrap_or found 0)
+pub place_read : (bytes : List ℕ) (found : Option ℕ) → MatchOption found (HasHeader bytes) (IsHeaderFault bytes) → ¬ HasHeader bytes
+    → header_fault_in bytes (header_in bytes) ≡ Some (unwrap_or found 0)
 place_read bytes None has none = absurd (none has)
 place_read bytes (Some place) fault none =
     ap (header_fault_in bytes) ((header_in-none bytes).1 none)

@@ -36,45 +36,60 @@ use Rattle.spool_store.proofs.PrefixLemmas.{damage_of_jobs_same, table_same}
 -- Answers that are a damage.
 
 -- a fault that is the fault of this damage
-of_damage : {T : Type 0} (fault : StoreFault) (result : Result T StoreFault) (damage : Damage) → IsErrAnd result (λ one. one ≡ fault) → result ≡ Err (Damaged damage) → fault ≡ Damaged damage
+of_damage : {T : Type 0} (fault : StoreFault) (result : Result T StoreFault) (damage : Damage) → IsErrAnd result (λ one. one ≡ fault)
+    → result ≡ Err (Damaged damage) → fault ≡ Damaged damage
 of_damage fault (Ok value) damage is same = absurd is
 of_damage {T} fault (Err one) damage is same = sym is ∙ inner same where
   inner : ◌≡◌ {A = Result T StoreFault} (Err one) (Err (Damaged damage)) → one ≡ Damaged damage
   inner same = cc
 
-pub sequence_damage : {T : Type 0} → (P Q : Damage → Type 0) (f : SequenceFault) (result : Result T StoreFault) → IsErrAnd result (λ fault. fault ≡ fault_of_sequence f) → IfDamaged {T = ℕ} sequence.Damaged Q (Err f) → ((damage : Damage) → Q damage → P damage) → IfDamaged Damaged P result
+pub sequence_damage : {T : Type 0} → (P Q : Damage → Type 0) (f : SequenceFault) (result : Result T StoreFault)
+    → IsErrAnd result (λ fault. fault ≡ fault_of_sequence f) → IfDamaged {T = ℕ} sequence.Damaged Q (Err f)
+    → ((damage : Damage) → Q damage → P damage) → IfDamaged Damaged P result
 sequence_damage P Q f result is of go = λ damage same. by_fault f of damage (of_damage (fault_of_sequence f) result damage is same) where
-  by_fault : (one : SequenceFault) → IfDamaged {T = ℕ} sequence.Damaged Q (Err one) → (damage : Damage) → fault_of_sequence one ≡ Damaged damage → P damage
+  by_fault : (one : SequenceFault) → IfDamaged {T = ℕ} sequence.Damaged Q (Err one) → (damage : Damage)
+      → fault_of_sequence one ≡ Damaged damage → P damage
   by_fault (sequence.Damaged other) of damage same = let here : other ≡ damage = cc in subst P here (go other (of other refl))
   by_fault sequence.Failed of damage same = cc
   by_fault sequence.Memory of damage same = cc
 
-pub recalled_damage : {S T : Type 0} → (P Q : Damage → Type 0) (f : JournalFault) (result : Result T StoreFault) → IsErrAnd result (λ fault. fault ≡ fault_of_journal f) → IfDamaged {T = S} journal.Damaged Q (Err f) → ((damage : Damage) → Q damage → P damage) → IfDamaged Damaged P result
-recalled_damage {S = S} P Q f result is of go = λ damage same. by_fault f of damage (of_damage (fault_of_journal f) result damage is same) where
-  by_fault : (one : JournalFault) → IfDamaged {T = S} journal.Damaged Q (Err one) → (damage : Damage) → fault_of_journal one ≡ Damaged damage → P damage
-  by_fault (journal.Damaged other) of damage same = let here : other ≡ damage = cc in subst P here (go other (of other refl))
-  by_fault journal.Failed of damage same = cc
-  by_fault journal.Memory of damage same = cc
+pub recalled_damage : {S T : Type 0} → (P Q : Damage → Type 0) (f : JournalFault) (result : Result T StoreFault)
+    → IsErrAnd result (λ fault. fault ≡ fault_of_journal f) → IfDamaged {T = S} journal.Damaged Q (Err f)
+    → ((damage : Damage) → Q damage → P damage) → IfDamaged Damaged P result
+recalled_damage {S = S} P Q f result is of go = λ damage same. by_fault f of damage (of_damage (fault_of_journal f) result damage is same)
+  where
+    by_fault : (one : JournalFault) → IfDamaged {T = S} journal.Damaged Q (Err one) → (damage : Damage)
+        → fault_of_journal one ≡ Damaged damage → P damage
+    by_fault (journal.Damaged other) of damage same = let here : other ≡ damage = cc in subst P here (go other (of other refl))
+    by_fault journal.Failed of damage same = cc
+    by_fault journal.Memory of damage same = cc
 
-pub found_damage : {T : Type 0} → (P : Damage → Type 0) (found : Option Damage) (f : StoreFault) (result : Result T StoreFault) → IsErrAnd result (λ fault. fault ≡ f) → IsFound found f → ((damage : Damage) → found ≡ Some damage → P damage) → IfDamaged Damaged P result
+pub found_damage : {T : Type 0} → (P : Damage → Type 0) (found : Option Damage) (f : StoreFault) (result : Result T StoreFault) → IsErrAnd
+    result (λ fault. fault ≡ f) → IsFound found f → ((damage : Damage) → found ≡ Some damage → P damage) → IfDamaged Damaged P result
 found_damage P found f result is of go = λ damage same. go damage (subst (IsFound found) (of_damage f result damage is same) of)
 
 -- What is shown.
 
 pub number_damage : (files : Files) (damage : Damage) → last_in (finite.get files sequence_file) ≡ Err damage → shown_by files ≡ Err damage
 unfolding shown_by
-number_damage files damage is = ap (λ number. shown_after_last number (entries files)) (ap last_in (sym (get-entries files sequence_file)) ∙ is)
+number_damage files damage is =
+    ap (λ number. shown_after_last number (entries files)) (ap last_in (sym (get-entries files sequence_file)) ∙ is)
 
-shown_at : (files : Files) (last : ℕ) → last_in (finite.get files sequence_file) ≡ Ok last → shown_by files ≡ shown_after_journal last (journal_in last (finite.get files journal_file)) (entries files)
+shown_at : (files : Files) (last : ℕ) → last_in (finite.get files sequence_file) ≡ Ok last
+    → shown_by files ≡ shown_after_journal last (journal_in last (finite.get files journal_file)) (entries files)
 unfolding shown_by
 shown_at files last is =
     ap (λ number. shown_after_last number (entries files)) (ap last_in (sym (get-entries files sequence_file)) ∙ is)
     ∙ ap (λ content. shown_after_journal last (journal_in last content) (entries files)) (sym (get-entries files journal_file))
 
-pub journal_damage : (files : Files) (last : ℕ) (damage : Damage) → last_in (finite.get files sequence_file) ≡ Ok last → journal_in last (finite.get files journal_file) ≡ Err damage → shown_by files ≡ Err damage
+pub journal_damage : (files : Files) (last : ℕ) (damage : Damage) → last_in (finite.get files sequence_file) ≡ Ok last
+    → journal_in last (finite.get files journal_file) ≡ Err damage → shown_by files ≡ Err damage
 journal_damage files last damage number is = shown_at files last number ∙ ap (λ read. shown_after_journal last read (entries files)) is
 
-module _ (files : Files) (last : ℕ) (journal : JournalRead) (scanned_files : ScannedFiles) (marks : List Mark) (slice : List ScannedJob) (number : last_in (finite.get files sequence_file) ≡ Ok last) (read : journal_in last (finite.get files journal_file) ≡ Ok journal) (are : AreScannedFiles journal.marks (entries files) scanned_files) (marks_is : marks ≡ journal.marks) (slice_is : slice ≡ scanned_files.scanned.items) where
+module _ (files : Files) (last : ℕ) (journal : JournalRead) (scanned_files : ScannedFiles) (marks : List Mark) (slice : List ScannedJob)
+    (number : last_in (finite.get files sequence_file) ≡ Ok last) (read : journal_in last (finite.get files journal_file) ≡ Ok journal)
+    (are : AreScannedFiles journal.marks (entries files) scanned_files) (marks_is : marks ≡ journal.marks)
+    (slice_is : slice ≡ scanned_files.scanned.items) where
   shown_of : shown_by files ≡ shown_by_files last journal.marks (job_files journal.marks (entries files))
   shown_of = shown_at files last number ∙ ap (λ one. shown_after_journal last one (entries files)) read
 
@@ -82,16 +97,19 @@ module _ (files : Files) (last : ℕ) (journal : JournalRead) (scanned_files : S
   scanned_is = ap files_scanned slice_is ∙ are.scanned ∙ files_cut journal.marks (entries files)
 
   damage_is : damage_of_jobs last marks (files_scanned slice) ≡ damage_of_jobs last journal.marks (job_files journal.marks (entries files))
-  damage_is = (λ i. damage_of_jobs last (marks_is i) (scanned_is i)) ∙ damage_of_jobs_same last journal.marks (job_files journal.marks (entries files))
+  damage_is = (λ i. damage_of_jobs last (marks_is i) (scanned_is i))
+      ∙ damage_of_jobs_same last journal.marks (job_files journal.marks (entries files))
 
   pub jobs_damage : (damage : Damage) → damage_of_jobs last marks (files_scanned slice) ≡ Some damage → shown_by files ≡ Err damage
   jobs_damage damage is = shown_of ∙ ap (table_or_damage last journal.marks (job_files journal.marks (entries files))) (sym damage_is ∙ is)
 
-  pub is_scan : (scan : RecoveryScan) → scan.journal ≡ journal → scan.old_form.items ≡ old_form_numbers (files_scanned slice) → scan.leftover.items ≡ scanned_files.leftover.items → IsTableShown last marks (files_scanned slice) scan.jobs → IsScan files scan
+  pub is_scan : (scan : RecoveryScan) → scan.journal ≡ journal → scan.old_form.items ≡ old_form_numbers (files_scanned slice)
+      → scan.leftover.items ≡ scanned_files.leftover.items → IsTableShown last marks (files_scanned slice) scan.jobs → IsScan files scan
   is_scan scan journal_same old_form left shown = record {
     table = table_shown last journal.marks (job_files journal.marks (entries files));
     shows = shown_of ∙ ap (table_or_damage last journal.marks (job_files journal.marks (entries files))) (sym damage_is ∙ shown.0);
-    jobs = shown.1 ∙ (λ i. without_scripts (table_shown last (marks_is i) (scanned_is i))) ∙ table_same last journal.marks (job_files journal.marks (entries files));
+    jobs = shown.1 ∙ (λ i. without_scripts (table_shown last (marks_is i) (scanned_is i)))
+        ∙ table_same last journal.marks (job_files journal.marks (entries files));
     journal = read ∙ ap Ok (sym journal_same);
     old_form = old_form ∙ ap old_form_numbers scanned_is ∙ old_form_same cut (λ file. refl) (job_files journal.marks (entries files))
         ∙ ap (λ (one : JournalRead). old_form_numbers (job_files one.marks (entries files))) (sym journal_same);

@@ -19,10 +19,13 @@ pub record TellAlike (number : ℕ) (one other : List Mark) : Type 0 where
   pub remembered : is_remembered number other ≡ is_remembered number one
 
 -- then they have the entry alike
-pub entry_alike : (one other : List Mark) (number : ℕ) (entry : Option JobEntry) → TellAlike number one other → IsEntryBy one number entry → IsEntryBy other number entry
+pub entry_alike : (one other : List Mark) (number : ℕ) (entry : Option JobEntry) → TellAlike number one other → IsEntryBy one number entry
+    → IsEntryBy other number entry
 entry_alike one other number None alike is = tt
-entry_alike one other number (Some (Live job Pending)) alike is = record { named = is.named; since = is.since; state_by = alike.named is.state_by }
-entry_alike one other number (Some (Live job (Running second))) alike is = record { named = is.named; since = is.since; state_by = alike.opened ∙ is.state_by }
+entry_alike one other number (Some (Live job Pending)) alike is =
+    record { named = is.named; since = is.since; state_by = alike.named is.state_by }
+entry_alike one other number (Some (Live job (Running second))) alike is =
+    record { named = is.named; since = is.since; state_by = alike.opened ∙ is.state_by }
 entry_alike one other number (Some (Done of)) alike is = alike.remembered ∙ is
 
 -- those that a compaction keeps
@@ -34,7 +37,8 @@ kept_alike marks number legal = record {
 }
 
 -- those with one more of another number
-pub other_alike : (marks : List Mark) (mark : Mark) (number : ℕ) → is_mark_of number mark ≡ false → TellAlike number marks (marks ++ mark ∷ [])
+pub other_alike : (marks : List Mark) (mark : Mark) (number : ℕ) → is_mark_of number mark ≡ false
+    → TellAlike number marks (marks ++ mark ∷ [])
 other_alike marks mark number other = record {
   named = λ unnamed. same (is_mark_of number) (λ one is. is) ∙ unnamed;
   opened = ap (λ b. b && not (is_decided number (marks ++ mark ∷ []))) (same (is_start_of number) (starts_names number))

@@ -68,10 +68,41 @@ pub record DecidesBy (table : JobTable) (number : ℕ) (fate : Fate) (step : Ste
   pub in_range : IsStartInRange step
 
 -- it is so at each fate
-pub decides_by : (table : JobTable) (number : ℕ) (fate : Fate) → DecidesBy table number fate (decision number fate) (decision_mark number fate)
-decides_by table number fate.Removed = record { lives = λ may. (may.0, Pending, may.1); adds = refl; without_scripts = refl; after = refl; named = λ other. refl; decided = passes_same number number refl; not_forgets = refl; drawn = refl; in_range = tt }
-decides_by table number (fate.Finished ending) = record { lives = λ may. (may.0, Running may.1, may.2); adds = refl; without_scripts = refl; after = refl; named = λ other. refl; decided = passes_same number number refl; not_forgets = refl; drawn = refl; in_range = tt }
-decides_by table number fate.Interrupted = record { lives = λ may. (may.0, Running may.1, may.2); adds = refl; without_scripts = refl; after = refl; named = λ other. refl; decided = passes_same number number refl; not_forgets = refl; drawn = refl; in_range = tt }
+pub decides_by : (table : JobTable) (number : ℕ) (fate : Fate)
+    → DecidesBy table number fate (decision number fate) (decision_mark number fate)
+decides_by table number fate.Removed = record {
+  lives = λ may. (may.0, Pending, may.1);
+  adds = refl;
+  without_scripts = refl;
+  after = refl;
+  named = λ other. refl;
+  decided = passes_same number number refl;
+  not_forgets = refl;
+  drawn = refl;
+  in_range = tt;
+}
+decides_by table number (fate.Finished ending) = record {
+  lives = λ may. (may.0, Running may.1, may.2);
+  adds = refl;
+  without_scripts = refl;
+  after = refl;
+  named = λ other. refl;
+  decided = passes_same number number refl;
+  not_forgets = refl;
+  drawn = refl;
+  in_range = tt;
+}
+decides_by table number fate.Interrupted = record {
+  lives = λ may. (may.0, Running may.1, may.2);
+  adds = refl;
+  without_scripts = refl;
+  after = refl;
+  named = λ other. refl;
+  decided = passes_same number number refl;
+  not_forgets = refl;
+  drawn = refl;
+  in_range = tt;
+}
 
 -- a number is not tested as another
 silent_other : (number other : ℕ) → ¬ (other ≡ number) → (number == other) ≡ false
@@ -97,14 +128,19 @@ module _ (kept : Kept) (is : IsStored kept) where
   state_by number job state held = let entry : IsLiveBy marks number job state = entry_by number (Live job state) held in entry.state_by
 
   -- and none decides it
-  live_undecided : (number : ℕ) (job : Job) (state : JobState) → entry_at table number ≡ Some (Live job state) → is_decided number marks ≡ false
-  live_undecided number job Pending held = none_narrower (decides number) (is_mark_of number) marks (decides_names number) (state_by number job Pending held)
+  live_undecided : (number : ℕ) (job : Job) (state : JobState) → entry_at table number ≡ Some (Live job state)
+      → is_decided number marks ≡ false
+  live_undecided number job Pending held =
+      none_narrower (decides number) (is_mark_of number) marks (decides_names number) (state_by number job Pending held)
   live_undecided number job (Running second) held = not-true _ (and_parts _ _ (state_by number job (Running second) held)).1
 
   -- so the end of one that runs may follow
-  running_unended : (number : ℕ) (job : Job) (second : ℤ) → entry_at table number ≡ Some (Live job (Running second)) → (has_start_of number marks ≡ true) × (is_ended number marks ≡ false)
-  running_unended number job second held =
-      ((and_parts _ _ (state_by number job (Running second) held)).0, none_narrower (is_end_of number) (decides number) marks (ends_decides number) (live_undecided number job (Running second) held))
+  running_unended : (number : ℕ) (job : Job) (second : ℤ) → entry_at table number ≡ Some (Live job (Running second))
+      → (has_start_of number marks ≡ true) × (is_ended number marks ≡ false)
+  running_unended number job second held = (
+    (and_parts _ _ (state_by number job (Running second) held)).0,
+    none_narrower (is_end_of number) (decides number) marks (ends_decides number) (live_undecided number job (Running second) held),
+  )
 
   -- and so may the mark of any decision
   pub decision_legal : (number : ℕ) (fate : Fate) → IsLegal table (decision number fate) → IsLegalAfter marks (decision_mark number fate)
@@ -113,37 +149,45 @@ module _ (kept : Kept) (is : IsStored kept) where
   decision_legal number fate.Interrupted (job, second, held) = running_unended number job second held
 
   -- what is kept with the step and its mark is as it should be
-  stored_at : (new : JournalRead) (step : Step) (mark : Mark) (number : ℕ) → new.marks ≡ marks ++ mark ∷ [] → IsLegal table step → IsStepAt table marks step mark number → IsStored (kept_then kept (after_step table step) new)
+  stored_at : (new : JournalRead) (step : Step) (mark : Mark) (number : ℕ) → new.marks ≡ marks ++ mark ∷ [] → IsLegal table step
+      → IsStepAt table marks step mark number → IsStored (kept_then kept (after_step table step) new)
   stored_at new step mark number more legal at = record {
     sound = step_keeps_sound table step is.sound legal;
-    drawn = ap (are_drawn (after_step table step).last) more ∙ ap (λ last. are_drawn last (marks ++ mark ∷ [])) at.last ∙ more_drawn table.last marks mark is.drawn at.drawn;
-    entries = λ other. subst (λ list. IsEntryBy list other (entry_at (after_step table step) other)) (sym more) (elim (eqb_tells other number) [
-      | inl same ↦ subst (λ n. IsEntryBy (marks ++ mark ∷ []) n (entry_at (after_step table step) n)) (sym same.1) at.here
-      | inr apart ↦ subst (IsEntryBy (marks ++ mark ∷ []) other) (sym (at.kept other apart.1))
-          (entry_alike marks (marks ++ mark ∷ []) other (entry_at table other) (other_alike marks mark other (at.unchecked other apart.1)) (is.entries other))
-    ]);
+    drawn = ap (are_drawn (after_step table step).last) more ∙ ap (λ last. are_drawn last (marks ++ mark ∷ [])) at.last
+        ∙ more_drawn table.last marks mark is.drawn at.drawn;
+    entries =
+        λ other. subst (λ list. IsEntryBy list other (entry_at (after_step table step) other)) (sym more) (elim (eqb_tells other number) [
+          | inl same ↦ subst (λ n. IsEntryBy (marks ++ mark ∷ []) n (entry_at (after_step table step) n)) (sym same.1) at.here
+          | inr apart ↦ subst (IsEntryBy (marks ++ mark ∷ []) other) (sym (at.kept other apart.1))
+              (entry_alike marks (marks ++ mark ∷ []) other (entry_at table other)
+              (other_alike marks mark other (at.unchecked other apart.1)) (is.entries other))
+        ]);
     batch = at.batch;
     old_form = is.old_form;
   }
 
   -- a step that decides a job
-  decided_at : AreLegalMarks marks → (number : ℕ) (fate : Fate) → IsLegal table (decision number fate) → IsStepAt table marks (decision number fate) (decision_mark number fate) number
+  decided_at : AreLegalMarks marks → (number : ℕ) (fate : Fate) → IsLegal table (decision number fate)
+      → IsStepAt table marks (decision number fate) (decision_mark number fate) number
   decided_at legal number fate may =
       let by : DecidesBy table number fate (decision number fate) (decision_mark number fate) = decides_by table number fate in
       let live : IsLive table number = by.lives may in
       record {
         unchecked = λ other differ. by.named other ∙ silent_other number other differ;
         kept = λ other differ. ap (λ t. entry_at t other) by.after ∙ get-put_other table.entries number other (Done fate) differ;
-        here = subst (IsEntryBy (marks ++ decision_mark number fate ∷ []) number) (sym (ap (λ t. entry_at t number) by.after ∙ get-put_same table.entries number (Done fate)))
+        here = subst (IsEntryBy (marks ++ decision_mark number fate ∷ []) number)
+            (sym (ap (λ t. entry_at t number) by.after ∙ get-put_same table.entries number (Done fate)))
             (and_from _ _ (any_with (decides number) marks (decision_mark number fate) by.decided)
-            (ap not (any_without (is_forgetting number) marks (decision_mark number fate) by.not_forgets ∙ not_forgotten marks number legal (live_undecided number live.0 live.1 live.2))));
+            (ap not (any_without (is_forgetting number) marks (decision_mark number fate) by.not_forgets
+            ∙ not_forgotten marks number legal (live_undecided number live.0 live.1 live.2))));
         drawn = by.drawn ∙ number_drawn number (Live live.0 live.1) live.2;
         last = ap (λ (t : JobTable). t.last) by.after;
         batch = subst (λ (t : JobTable). IfSome t.last_batch IsClockSecond) (sym by.after) is.batch;
       }
 
   -- a step that forgets a number
-  forgotten_at : (number : ℕ) (fate : Fate) → entry_at table number ≡ Some (Done fate) → IsStepAt table marks (Forget number) (mark.Forgotten number) number
+  forgotten_at : (number : ℕ) (fate : Fate) → entry_at table number ≡ Some (Done fate)
+      → IsStepAt table marks (Forget number) (mark.Forgotten number) number
   forgotten_at number fate held = record {
     unchecked = silent_other number;
     kept = λ other differ. get-taken_other table.entries number other differ;
@@ -154,7 +198,8 @@ module _ (kept : Kept) (is : IsStored kept) where
   }
 
   -- a step that starts a job
-  started_at : (number : ℕ) (second : ℤ) (job : Job) → entry_at table number ≡ Some (Live job Pending) → IsClockSecond second → IsStepAt table marks (Start number second) (mark.Started number job.queue second) number
+  started_at : (number : ℕ) (second : ℤ) (job : Job) → entry_at table number ≡ Some (Live job Pending) → IsClockSecond second
+      → IsStepAt table marks (Start number second) (mark.Started number job.queue second) number
   started_at number second job held range =
       let added : Mark = mark.Started number job.queue second in
       let old : IsLiveBy marks number job Pending = entry_by number (Live job Pending) held in
@@ -169,7 +214,8 @@ module _ (kept : Kept) (is : IsStored kept) where
       } in
       record {
         unchecked = silent_other number;
-        kept = λ other differ. ap (λ list. map.get list other) entries ∙ get-put_other table.entries number other (Live job (Running second)) differ;
+        kept = λ other differ. ap (λ list. map.get list other) entries
+            ∙ get-put_other table.entries number other (Live job (Running second)) differ;
         here = subst (IsEntryBy (marks ++ added ∷ []) number)
             (sym (ap (λ list. map.get list number) entries ∙ get-put_same table.entries number (Live job (Running second)))) new;
         drawn = number_drawn number (Live job Pending) held;
@@ -185,7 +231,8 @@ module _ (kept : Kept) (is : IsStored kept) where
   StepsAtNumber step added = (number : ℕ) × IsStepAt table marks step added number
 
   -- each of the five steps that add a mark is so
-  step_at : (step : Step) (added : Mark) → AreLegalMarks marks → IsLegal table step → AddsMark table step added → IsStartInRange step → StepsAtNumber step added
+  step_at : (step : Step) (added : Mark) → AreLegalMarks marks → IsLegal table step → AddsMark table step added → IsStartInRange step
+      → StepsAtNumber step added
   step_at (Remove number) added legal may adds range =
       subst (StepsAtNumber (Remove number)) (sym adds) (number, decided_at legal number fate.Removed may)
   step_at (Start number second) added legal may (job, held, adds) range =
@@ -199,7 +246,8 @@ module _ (kept : Kept) (is : IsStored kept) where
   step_at _ added legal may adds range = absurd adds
 
   -- what is kept with one more mark is as it should be
-  stored_more : (new : JournalRead) (step : Step) (mark : Mark) → new.marks ≡ marks ++ mark ∷ [] → AreLegalMarks marks → IsLegal table step → AddsMark table step mark → IsStartInRange step → IsStored (kept_then kept (after_step table step) new)
+  stored_more : (new : JournalRead) (step : Step) (mark : Mark) → new.marks ≡ marks ++ mark ∷ [] → AreLegalMarks marks → IsLegal table step
+      → AddsMark table step mark → IsStartInRange step → IsStored (kept_then kept (after_step table step) new)
   stored_more new step mark more legal may adds range =
       let at : StepsAtNumber step mark = step_at step mark legal may adds range in
       stored_at new step mark at.0 more may at.1
@@ -209,13 +257,17 @@ module _ (kept : Kept) (is : IsStored kept) where
   stored_kept legal = record {
     sound = is.sound;
     drawn = kept_drawn table.last marks is.drawn;
-    entries = λ number. entry_alike marks (kept_marks marks) number (entry_at table number) (kept_alike marks number legal) (is.entries number);
+    entries =
+        λ number. entry_alike marks (kept_marks marks) number (entry_at table number) (kept_alike marks number legal) (is.entries number);
     batch = is.batch;
     old_form = is.old_form;
   }
 
 -- so it is as it should be with one more mark, compacted before or not
-pub stored_with : (kept : Kept) (new : JournalRead) (step : Step) (mark : Mark) → IsStored kept → AreLegalMarks kept.journal.marks → IsLegal kept.table step → AddsMark kept.table step mark → IsStartInRange step → HaveOneMore kept.journal.marks mark new.marks → IsStored (record { table = after_step kept.table step; journal = new; old_form = kept.old_form })
+pub stored_with : (kept : Kept) (new : JournalRead) (step : Step) (mark : Mark) → IsStored kept → AreLegalMarks kept.journal.marks
+    → IsLegal kept.table step → AddsMark kept.table step mark → IsStartInRange step → HaveOneMore kept.journal.marks mark new.marks
+    → IsStored (record { table = after_step kept.table step; journal = new; old_form = kept.old_form })
 stored_with kept new step mark is legal may adds range (inl more) = stored_more kept is new step mark more legal may adds range
 stored_with kept new step mark is legal may adds range (inr more) =
-    stored_more (kept_then kept kept.table (compacted kept.journal)) (stored_kept kept is legal) new step mark more (kept_marks_are_legal kept.journal.marks legal) may adds range
+    stored_more (kept_then kept kept.table (compacted kept.journal)) (stored_kept kept is legal) new step mark more
+    (kept_marks_are_legal kept.journal.marks legal) may adds range

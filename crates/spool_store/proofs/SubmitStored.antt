@@ -50,9 +50,11 @@ marks_drawn last (mark ∷ later) drawn =
     and_from (is_drawn (last + 1) mark) (are_drawn (last + 1) later) (mark_drawn last mark tests.0) (marks_drawn last later tests.1)
 
 -- what is kept with one more job is as it has to be
-pub submitted_stored : (kept : Kept) (job : Job) → IsStored kept → kept.table.last < LAST_NUMBER → CanBeNamed job.queue job.minute → IsStored (with_job kept job)
+pub submitted_stored : (kept : Kept) (job : Job) → IsStored kept → kept.table.last < LAST_NUMBER → CanBeNamed job.queue job.minute
+    → IsStored (with_job kept job)
 submitted_stored kept job stored more named = record {
-  sound = steps_keep_the_table_sound table (submission table (job_without_script job)) stored.sound (submission_legal table (job_without_script job) stored.sound more);
+  sound = steps_keep_the_table_sound table (submission table (job_without_script job)) stored.sound
+      (submission_legal table (job_without_script job) stored.sound more);
   drawn = marks_drawn table.last marks stored.drawn;
   entries = by_number;
   batch = stored.batch;
@@ -67,9 +69,13 @@ submitted_stored kept job stored more named = record {
   here : IsLiveBy marks (table.last + 1) (job_without_script job) Pending
   here = record { named = named; since = tt; state_by = fresh_unnamed table.last (table.last + 1) marks (omega arith) stored.drawn }
 
-  by_number : (number : ℕ) → IsEntryBy marks number (finite.get (finite.insert table.entries (table.last + 1) (Live (job_without_script job) Pending)) number)
+  by_number : (number : ℕ)
+      → IsEntryBy marks number (finite.get (finite.insert table.entries (table.last + 1) (Live (job_without_script job) Pending)) number)
   by_number number = elim (eqb_tells number (table.last + 1)) [
-    | inl same ↦ subst (λ (at : ℕ). IsEntryBy marks at (finite.get (finite.insert table.entries (table.last + 1) (Live (job_without_script job) Pending)) at)) (sym same.1)
-        (subst (IsEntryBy marks (table.last + 1)) (sym (get-put_same table.entries (table.last + 1) (Live (job_without_script job) Pending))) here)
-    | inr apart ↦ subst (IsEntryBy marks number) (sym (get-put_other table.entries (table.last + 1) number (Live (job_without_script job) Pending) apart.1)) (stored.entries number)
+    | inl same ↦ subst (λ (at : ℕ). IsEntryBy marks at
+        (finite.get (finite.insert table.entries (table.last + 1) (Live (job_without_script job) Pending)) at)) (sym same.1)
+        (subst (IsEntryBy marks (table.last + 1))
+        (sym (get-put_same table.entries (table.last + 1) (Live (job_without_script job) Pending))) here)
+    | inr apart ↦ subst (IsEntryBy marks number)
+        (sym (get-put_other table.entries (table.last + 1) number (Live (job_without_script job) Pending) apart.1)) (stored.entries number)
   ]

@@ -32,11 +32,13 @@ pub last_without_scripts : (table : JobTable) → (without_scripts table).last �
 unfolding without_scripts
 last_without_scripts table = refl
 
-without_scripts_submission : (table : JobTable) (job : Job) → without_scripts (after_steps table (submission table job)) ≡ after_steps (without_scripts table) (submission (without_scripts table) (job_without_script job))
+without_scripts_submission : (table : JobTable) (job : Job) → without_scripts (after_steps table (submission table job))
+    ≡ after_steps (without_scripts table) (submission (without_scripts table) (job_without_script job))
 without_scripts_submission table job =
     steps_as_on_the_table (after_step table Draw) (Accept (table.last + 1) job)
     ∙ ap (λ at. after_step at (Accept (table.last + 1) (job_without_script job))) (steps_as_on_the_table table Draw)
-    ∙ ap (λ last. after_step (after_step (without_scripts table) Draw) (Accept (last + 1) (job_without_script job))) (sym (last_without_scripts table))
+    ∙ ap (λ last. after_step (after_step (without_scripts table) Draw) (Accept (last + 1) (job_without_script job)))
+    (sym (last_without_scripts table))
 
 -- The directory once the number is drawn and the file placed.
 pub record IsSubmitted (table : JobTable) (job : Job) (name : List ℕ) (old middle new : Directory) : Type 0 where
@@ -45,7 +47,8 @@ pub record IsSubmitted (table : JobTable) (job : Job) (name : List ℕ) (old mid
   pub after : (image : Files) → IsImage middle image → IsAfterDraw table old image
   pub placing : (image : Files) → IsImage new image → IsPlacing temporary_file name job.script middle image
 
-module _ (kept : Kept) (table : JobTable) (job : Job) (name : List ℕ) (file : IsFileOfNext table job name) (old middle new : Directory) (next : IsNextOn kept old table (table.last + 1)) (is : IsSubmitted table job name old middle new) where
+module _ (kept : Kept) (table : JobTable) (job : Job) (name : List ℕ) (file : IsFileOfNext table job name) (old middle new : Directory)
+    (next : IsNextOn kept old table (table.last + 1)) (is : IsSubmitted table job name old middle new) where
   shows : EachShows new (after_steps table (submission table job))
   shows image of =
       let from : Files = (is.placing image of).alone.from in
@@ -59,7 +62,8 @@ module _ (kept : Kept) (table : JobTable) (job : Job) (name : List ℕ) (file : 
       let from : Files = (is.placing image of).alone.from in
       let draw : IsAfterDraw table old from = is.after from (is.placing image of).alone.was in
       (is.placing image of).alone.others journal_file
-      (neither temporary_file name journal_file (differ_by journal_file temporary_file refl) (λ same. job_name_differs name journal_file _ file.named journal_no_job (sym same)))
+      (neither temporary_file name journal_file (differ_by journal_file temporary_file refl)
+      (λ same. job_name_differs name journal_file _ file.named journal_no_job (sym same)))
       ∙ draw.drawn.others journal_file journal_apart
       ∙ next.current.journal.same draw.from draw.was
 
@@ -71,11 +75,13 @@ module _ (kept : Kept) (table : JobTable) (job : Job) (name : List ℕ) (file : 
   -- no mark decides the new number
   undecided : is_decided (table.last + 1) kept.journal.marks ≡ false
   undecided =
-      let last_is : kept.table.last ≡ table.last = ap (λ (at : JobTable). at.last) next.current.without_scripts_is ∙ last_without_scripts table in
+      let last_is : kept.table.last ≡ table.last = ap (λ (at : JobTable). at.last) next.current.without_scripts_is
+      ∙ last_without_scripts table in
       let drawn : are_drawn kept.table.last kept.journal.marks ≡ true = next.stored.drawn in
       fresh_undecided kept.table.last (table.last + 1) kept.journal.marks (omega arith) drawn
 
-  none_decided : (other : List ℕ) (named : NamedJob) → job_named other ≡ Some named → is_decided named.number kept.journal.marks ≡ true → finite.get (reading_of new) other ≡ None
+  none_decided : (other : List ℕ) (named : NamedJob) → job_named other ≡ Some named → is_decided named.number kept.journal.marks ≡ true
+      → finite.get (reading_of new) other ≡ None
   none_decided other named of decided = elim (one_or_other other name) [
     | inl same ↦ absurd (not_new same)
     | inr differs ↦
@@ -85,7 +91,8 @@ module _ (kept : Kept) (table : JobTable) (job : Job) (name : List ℕ) (file : 
   ] where
     not_new : ¬ (other ≡ name)
     not_new same =
-        let both : Some named ≡ Some (record { queue = job.queue; number = table.last + 1; minute = job.minute; new_form = true }) = sym of ∙ ap job_named same ∙ file.named in
+        let both : Some named ≡ Some (record { queue = job.queue; number = table.last + 1; minute = job.minute; new_form = true }) = sym of
+        ∙ ap job_named same ∙ file.named in
         let number_is : named.number ≡ table.last + 1 = cc in
         let impossible : true ≡ false = sym decided ∙ ap (λ n. is_decided n kept.journal.marks) number_is ∙ undecided in
         cc
@@ -102,13 +109,16 @@ module _ (kept : Kept) (table : JobTable) (job : Job) (name : List ℕ) (file : 
   forms = record {
     each = λ other named of there. elim (one_or_other other name) [
       | inl same ↦
-          let both : Some named ≡ Some (record { queue = job.queue; number = table.last + 1; minute = job.minute; new_form = true }) = sym of ∙ ap job_named same ∙ file.named in
+          let both : Some named ≡ Some (record { queue = job.queue; number = table.last + 1; minute = job.minute; new_form = true }) =
+          sym of ∙ ap job_named same ∙ file.named in
           let number_is : named.number ≡ table.last + 1 = cc in
           let new_form_is : named.new_form ≡ true = cc in
           new_form_is ∙ sym (ap (is_new_form kept.old_form) number_is ∙ new_is_new_form)
       | inr differs ↦ next.current.forms.each other named of (subst IsSome
-          (is.placed.others other (neither temporary_file name other (job_name_differs other temporary_file named of temporary_no_job) differs)
-          ∙ is.drawn.placed.others other (job_name_apart temporary_file sequence_file other named temporary_no_job sequence_no_job of)) there)
+          (is.placed.others other
+          (neither temporary_file name other (job_name_differs other temporary_file named of temporary_no_job) differs)
+          ∙ is.drawn.placed.others other (job_name_apart temporary_file sequence_file other named temporary_no_job sequence_no_job of))
+          there)
     ];
     drawn = λ number form. let before : number ≤ table.last = next.current.forms.drawn number form in omega arith;
   }
@@ -116,11 +126,13 @@ module _ (kept : Kept) (table : JobTable) (job : Job) (name : List ℕ) (file : 
   pub submitted_current : IsCurrent (with_job kept job) new (after_steps table (submission table job))
   submitted_current = record {
     shows = shows;
-    without_scripts_is = ap (λ at. after_steps at (submission at (job_without_script job))) next.current.without_scripts_is ∙ sym (without_scripts_submission table job);
+    without_scripts_is = ap (λ at. after_steps at (submission at (job_without_script job))) next.current.without_scripts_is
+        ∙ sym (without_scripts_submission table job);
     journal = record {
       durable = is.placed.durable;
       same = λ image of. journal_same image of ∙ sym (journal_same (reading_of new) (reading_is_image new));
-      gives = subst (λ content. GivesReadJournal content kept.journal) (sym (journal_same (reading_of new) (reading_is_image new))) next.current.journal.gives;
+      gives = subst (λ content. GivesReadJournal content kept.journal) (sym (journal_same (reading_of new) (reading_is_image new)))
+          next.current.journal.gives;
       no_temp = is.placed.no_temp;
     };
     sequence = λ image of. sequence_is image of ∙ sym (sequence_is (reading_of new) (reading_is_image new));

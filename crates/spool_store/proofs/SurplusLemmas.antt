@@ -23,11 +23,13 @@ use Rattle.spool_store.proofs.CountLemmas.{decided_listed}
 use Rattle.spool_store.proofs.MakeLemmas.{changes_made}
 
 -- the surplus, by the list of what is done
-pub surplus_listed : (table : JobTable) (decided : List Decided) (count : ℕ) → ListsDecided table decided → count ≡ length decided - MAX_DONE →
+pub surplus_listed : (table : JobTable) (decided : List Decided) (count : ℕ) → ListsDecided table decided
+    → count ≡ length decided - MAX_DONE →
     map (λ (done : Decided). done.number) (take count decided) ≡ surplus table
 surplus_listed table decided count lists is =
     sym (take-map (λ (done : Decided). done.number) count decided)
-    ∙ ap (λ (n : ℕ). take n (map (λ (done : Decided). done.number) decided)) (is ∙ ap (λ (n : ℕ). n - MAX_DONE) (sym (length-map decided (λ (done : Decided). done.number))))
+    ∙ ap (λ (n : ℕ). take n (map (λ (done : Decided). done.number) decided)) (is
+    ∙ ap (λ (n : ℕ). n - MAX_DONE) (sym (length-map decided (λ (done : Decided). done.number))))
     ∙ ap (λ (numbers : List ℕ). take (length numbers - MAX_DONE) numbers) (sym (decided_listed table decided lists))
 
 -- what is kept without scripts has the surplus of the table
@@ -52,7 +54,13 @@ surplus_legal table =
     (λ number has. done_held table number (take_has count (done_numbers table) number has))
 
 -- so that a call may
-pub may_forget : {tells : Bool} {session : Session} {world : World} {kept : Kept} (steps : List Step) → steps ≡ map Forget (surplus kept.table) → IsInside session →
+pub may_forget : {tells : Bool} {session : Session} {world : World} {kept : Kept} (steps : List Step)
+    → steps ≡ map Forget (surplus kept.table) → IsInside session →
     (tells ≡ true → (table : JobTable) × IsCurrent kept world.now.directory table) → MayMakeSteps tells session world kept steps
 may_forget {tells} {session} {world} {kept} steps is inside current = subst (MayMakeSteps tells session world kept) (sym is)
-    (record { inside = inside; legal = surplus_legal kept.table; changes = changes_made Forget (surplus kept.table) (λ _. tt); current = current })
+    (record {
+      inside = inside;
+      legal = surplus_legal kept.table;
+      changes = changes_made Forget (surplus kept.table) (λ _. tt);
+      current = current;
+    })

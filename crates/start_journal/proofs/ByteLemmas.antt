@@ -25,7 +25,8 @@ at_least_one number is = grind (arith, nat_tests)
 pub writable_tested : (mark : Mark) → IsWritable mark → can_write mark ≡ true
 writable_tested (Removed number) is = one_at_least number is
 writable_tested (Started number queue second) is =
-    and_from (nat_le 1 number && is_ascii_alphabetic queue) (is_clock_second second) (and_from (nat_le 1 number) (is_ascii_alphabetic queue) (one_at_least number is.drawn) is.letter) (second_tested second is.second_of)
+    and_from (nat_le 1 number && is_ascii_alphabetic queue) (is_clock_second second)
+    (and_from (nat_le 1 number) (is_ascii_alphabetic queue) (one_at_least number is.drawn) is.letter) (second_tested second is.second_of)
 writable_tested (Ended number ending) is = one_at_least number is
 writable_tested (Interrupted number) is = one_at_least number is
 writable_tested (Forgotten number) is = one_at_least number is
@@ -34,8 +35,10 @@ writable_tested (Batch second) is = second_tested second is
 pub writable_is : (mark : Mark) → can_write mark ≡ true → IsWritable mark
 writable_is (Removed number) is = at_least_one number is
 writable_is (Started number queue second) is =
-    let tests : ((nat_le 1 number && is_ascii_alphabetic queue) ≡ true) × (is_clock_second second ≡ true) = and_parts (nat_le 1 number && is_ascii_alphabetic queue) (is_clock_second second) is in
-    let prefix : (nat_le 1 number ≡ true) × (is_ascii_alphabetic queue ≡ true) = and_parts (nat_le 1 number) (is_ascii_alphabetic queue) tests.0 in
+    let tests : ((nat_le 1 number && is_ascii_alphabetic queue) ≡ true) × (is_clock_second second ≡ true) =
+    and_parts (nat_le 1 number && is_ascii_alphabetic queue) (is_clock_second second) is in
+    let prefix : (nat_le 1 number ≡ true) × (is_ascii_alphabetic queue ≡ true) =
+    and_parts (nat_le 1 number) (is_ascii_alphabetic queue) tests.0 in
     record { drawn = at_least_one number prefix.0; letter = prefix.1; second_of = second_is second tests.1 }
 writable_is (Ended number ending) is = at_least_one number is
 writable_is (Interrupted number) is = at_least_one number is
@@ -43,7 +46,8 @@ writable_is (Forgotten number) is = at_least_one number is
 writable_is (Batch second) is = second_is second is
 
 -- six tests that all pass
-six : (a b c d e f : Bool) → (a && b && c && d && e && f) ≡ true → (a ≡ true) × (b ≡ true) × (c ≡ true) × (d ≡ true) × (e ≡ true) × (f ≡ true)
+six : (a b c d e f : Bool) → (a && b && c && d && e && f) ≡ true → (a ≡ true) × (b ≡ true) × (c ≡ true) × (d ≡ true)
+    × (e ≡ true) × (f ≡ true)
 six a b c d e f is =
     let of_f : ((a && b && c && d && e) ≡ true) × (f ≡ true) = and_parts (a && b && c && d && e) f is in
     let of_e : ((a && b && c && d) ≡ true) × (e ≡ true) = and_parts (a && b && c && d) e of_f.0 in
@@ -55,7 +59,8 @@ six a b c d e f is =
 -- fields that pass the test are the same
 same_fields : (one other : Fields) → are_same_fields one other ≡ true → one ≡ other
 same_fields one other is =
-    let tests = six (one.kind == other.kind) (one.number == other.number) (one.queue == other.queue) (one.ending == other.ending) (one.status == other.status) (one.second == other.second) is in
+    let tests = six (one.kind == other.kind) (one.number == other.number) (one.queue == other.queue) (one.ending == other.ending)
+    (one.status == other.status) (one.second == other.second) is in
     let kinds : one.kind ≡ other.kind = eqb-true one.kind other.kind tests.0 in
     let numbers : one.number ≡ other.number = eqb-true one.number other.number tests.1 in
     let queues : one.queue ≡ other.queue = eqb-true one.queue other.queue tests.2 in
@@ -70,19 +75,24 @@ passes number = eq-eqb number number refl
 
 fields_pass : (fields : Fields) → are_same_fields fields fields ≡ true
 fields_pass fields =
-    rw (passes fields.kind) (rw (passes fields.number) (rw (passes fields.queue) (rw (passes fields.ending) (rw (passes fields.status) (passes fields.second)))))
+    rw (passes fields.kind)
+    (rw (passes fields.number) (rw (passes fields.queue) (rw (passes fields.ending) (rw (passes fields.status) (passes fields.second)))))
 
 -- the bytes of a slot have its form, and its fields
 pub spelled_form : (slot : List ℕ) (fields : Fields) → SpellsFields slot fields → has_form slot ≡ true
 spelled_form slot fields spelled =
     rw (eq-eqb (length slot) 32 spelled.counted) (rw (eq-eqb (slice_index slot 0) 43 spelled.gate)
-    (rw (spelled_digits (slice_range slot 2 10) fields.number spelled.number) (rw (spelled_digits (slice_range slot 12 14) fields.status spelled.status)
-    (rw (spelled_digits (slice_range slot 14 30) fields.second spelled.second) (rw (eq-eqb (slice_index slot 30) 46 spelled.point) (eq-eqb (slice_index slot 31) 10 spelled.newline))))))
+    (rw (spelled_digits (slice_range slot 2 10) fields.number spelled.number)
+    (rw (spelled_digits (slice_range slot 12 14) fields.status spelled.status)
+    (rw (spelled_digits (slice_range slot 14 30) fields.second spelled.second)
+    (rw (eq-eqb (slice_index slot 30) 46 spelled.point) (eq-eqb (slice_index slot 31) 10 spelled.newline))))))
 
 pub form_spells : (slot : List ℕ) → has_form slot ≡ true → SpellsFields slot (fields_in slot)
 form_spells slot form =
-    let newline = and_parts (length slot == 32 && slice_index slot 0 == 43 && are_digits (slice_range slot 2 10) && are_digits (slice_range slot 12 14) && are_digits (slice_range slot 14 30) && slice_index slot 30 == 46) (slice_index slot 31 == 10) form in
-    let rest = six (length slot == 32) (slice_index slot 0 == 43) (are_digits (slice_range slot 2 10)) (are_digits (slice_range slot 12 14)) (are_digits (slice_range slot 14 30)) (slice_index slot 30 == 46) newline.0 in
+    let newline = and_parts (length slot == 32 && slice_index slot 0 == 43 && are_digits (slice_range slot 2 10) && are_digits
+    (slice_range slot 12 14) && are_digits (slice_range slot 14 30) && slice_index slot 30 == 46) (slice_index slot 31 == 10) form in
+    let rest = six (length slot == 32) (slice_index slot 0 == 43) (are_digits (slice_range slot 2 10)) (are_digits (slice_range slot 12 14))
+    (are_digits (slice_range slot 14 30)) (slice_index slot 30 == 46) newline.0 in
     record {
       counted = eqb-true (length slot) 32 rest.0;
       gate = eqb-true (slice_index slot 0) 43 rest.1;
@@ -102,14 +112,16 @@ unfolding mark_in
 given slot mark spelled =
     let form : has_form slot ≡ true = spelled_form slot (fields_of mark) spelled.fields in
     let same : fields_in slot ≡ fields_of mark = one_fields slot (fields_in slot) (fields_of mark) (form_spells slot form) spelled.fields in
-    let says : (can_write mark && are_same_fields (fields_of mark) (fields_of mark)) ≡ true = and_from (can_write mark) _ (writable_tested mark spelled.writable) (fields_pass (fields_of mark)) in
+    let says : (can_write mark && are_same_fields (fields_of mark) (fields_of mark)) ≡ true =
+    and_from (can_write mark) _ (writable_tested mark spelled.writable) (fields_pass (fields_of mark)) in
     ap (λ b. if b then mark_saying (fields_in slot) (mark_with (fields_in slot)) else None) form
     ∙ ap (λ fields. mark_saying fields (mark_with fields)) same
     ∙ ap (mark_saying (fields_of mark)) (mark_again mark spelled.writable)
     ∙ ap (λ b. if b then Some mark else None) says
 
 -- what is said by the fields
-saying : (slot : List ℕ) (fields : Fields) (found : Option Mark) (mark : Mark) → SpellsFields slot fields → mark_saying fields found ≡ Some mark → SpellsMark slot mark
+saying : (slot : List ℕ) (fields : Fields) (found : Option Mark) (mark : Mark) → SpellsFields slot fields
+    → mark_saying fields found ≡ Some mark → SpellsMark slot mark
 saying slot fields None mark spelled is = cc
 saying slot fields (Some found) mark spelled is = by_test (can_write found && are_same_fields (fields_of found) fields) refl where
   by_test : (says : Bool) → (can_write found && are_same_fields (fields_of found) fields) ≡ says → SpellsMark slot mark
@@ -134,7 +146,8 @@ spells slot mark is = by_form (has_form slot) refl where
       saying slot (fields_in slot) (mark_with (fields_in slot)) mark (form_spells slot form)
       (sym (ap (λ b. if b then mark_saying (fields_in slot) (mark_with (fields_in slot)) else None) form) ∙ is)
   by_form false form =
-      let none : None ≡ Some mark = sym (ap (λ b. if b then mark_saying (fields_in slot) (mark_with (fields_in slot)) else None) form) ∙ is in
+      let none : None ≡ Some mark =
+      sym (ap (λ b. if b then mark_saying (fields_in slot) (mark_with (fields_in slot)) else None) form) ∙ is in
       cc
 
 pub slots_give_their_marks : SlotsGiveTheirMarks

@@ -25,7 +25,8 @@ module _ (old : List ℕ) (offset : ℕ) (part : List ℕ) (within : offset + le
       ∙ get_or-take offset old at 0 before
 
   -- in the range the new ones
-  pub over_inside : (at : ℕ) → offset ≤ at → at < offset + length part → slice_index (overwritten old offset part) at ≡ slice_index part (at - offset)
+  pub over_inside : (at : ℕ) → offset ≤ at → at < offset + length part
+      → slice_index (overwritten old offset part) at ≡ slice_index part (at - offset)
   over_inside at after before =
       get_or-append (take offset old ++ part) (drop (offset + length part) old) 0 at (omega (arith, both_long))
       ∙ get_or-append_right (take offset old) part offset at 0 prefix_long after
@@ -41,7 +42,8 @@ module _ (old : List ℕ) (offset : ℕ) (part : List ℕ) (within : offset + le
 -- a range that gets its own bytes
 pub over_own : (old : List ℕ) (offset count : ℕ) → offset + count ≤ length old → overwritten old offset (take count (drop offset old)) ≡ old
 over_own old offset count within =
-    let own_long : length (take count (drop offset old)) ≡ count = length-take-le count (drop offset old) (omega (arith, length-drop offset old)) in
+    let own_long : length (take count (drop offset old)) ≡ count =
+    length-take-le count (drop offset old) (omega (arith, length-drop offset old)) in
     ap (λ n. take offset old ++ take count (drop offset old) ++ drop (offset + n) old) own_long
     ∙ append_assoc (take offset old) (take count (drop offset old)) (drop (offset + count) old)
     ∙ ap (λ rest. take offset old ++ (take count (drop offset old) ++ rest)) (sym (drop-drop count offset old))

@@ -42,27 +42,35 @@ legal_is before (Forgotten number) is = started_not_ended (is_decided number bef
 legal_is before (Batch second) is = tt
 
 -- the slot of a legal mark after others
-spelled_slot : (last : ℕ) (before : List Mark) (slot : List ℕ) (mark : Mark) → SpellsMark slot mark → IsLegalAfter before mark → is_drawn last mark ≡ true → one_slot last (record { marks = before; free = 0 }) slot ≡ Ok (record { marks = before ++ mark ∷ []; free = 0 })
+spelled_slot : (last : ℕ) (before : List Mark) (slot : List ℕ) (mark : Mark) → SpellsMark slot mark → IsLegalAfter before mark → is_drawn
+    last mark ≡ true → one_slot last (record { marks = before; free = 0 }) slot ≡ Ok (record { marks = before ++ mark ∷ []; free = 0 })
 spelled_slot last before slot mark spelled legal drawn =
     let read : JournalRead = record { marks = before; free = 0 } in
     let more : JournalRead = record { marks = before ++ mark ∷ []; free = 0 } in
-    let whole : (is_legal_after before mark && is_drawn last mark) ≡ true = and_from (is_legal_after before mark) (is_drawn last mark) (legal_tested before mark legal) drawn in
-    ap (λ b. if b then open_slot last read (mark_in slot) (right_prefix slot) else Ok (record { marks = before; free = 1 })) (eq-eqb (slice_index slot 0) 43 spelled.fields.gate)
+    let whole : (is_legal_after before mark && is_drawn last mark) ≡ true =
+    and_from (is_legal_after before mark) (is_drawn last mark) (legal_tested before mark legal) drawn in
+    ap (λ b. if b then open_slot last read (mark_in slot) (right_prefix slot) else Ok (record { marks = before; free = 1 }))
+    (eq-eqb (slice_index slot 0) 43 spelled.fields.gate)
     ∙ ap (λ found. open_slot last read found (right_prefix slot)) (given slot mark spelled)
     ∙ ap (λ b. if b then Ok more else Err 0) whole
 
 -- the slots of legal marks, and others after them
-marks_read : (last : ℕ) (before : List Mark) (slots : List (List ℕ)) (marks : List Mark) (tail : List (List ℕ)) (answer : Result JournalRead ℕ) → SpellMarks slots marks → AreLegalMarksAfter before marks → are_drawn last marks ≡ true → ((offset : ℕ) → all_slots last offset (record { marks = before ++ marks; free = 0 }) tail ≡ answer) → (offset : ℕ) → all_slots last offset (record { marks = before; free = 0 }) (slots ++ tail) ≡ answer
+marks_read : (last : ℕ) (before : List Mark) (slots : List (List ℕ)) (marks : List Mark) (tail : List (List ℕ))
+    (answer : Result JournalRead ℕ) → SpellMarks slots marks → AreLegalMarksAfter before marks → are_drawn last marks ≡ true
+    → ((offset : ℕ) → all_slots last offset (record { marks = before ++ marks; free = 0 }) tail ≡ answer) → (offset : ℕ)
+    → all_slots last offset (record { marks = before; free = 0 }) (slots ++ tail) ≡ answer
 marks_read last before [] [] tail answer spelled legal drawn later offset =
     subst (λ list. all_slots last offset (record { marks = list; free = 0 }) tail ≡ answer) (append-nil before) (later offset)
 marks_read last before [] (mark ∷ marks) tail answer spelled legal drawn later offset = absurd spelled
 marks_read last before (slot ∷ slots) [] tail answer spelled legal drawn later offset = absurd spelled
 marks_read last before (slot ∷ slots) (mark ∷ marks) tail answer spelled legal drawn later offset =
     let tests : (is_drawn last mark ≡ true) × (are_drawn last marks ≡ true) = and_parts (is_drawn last mark) (are_drawn last marks) drawn in
-    let here : one_slot last (record { marks = before; free = 0 }) slot ≡ Ok (record { marks = before ++ mark ∷ []; free = 0 }) = spelled_slot last before slot mark spelled.0 legal.0 tests.0 in
+    let here : one_slot last (record { marks = before; free = 0 }) slot ≡ Ok (record { marks = before ++ mark ∷ []; free = 0 }) =
+    spelled_slot last before slot mark spelled.0 legal.0 tests.0 in
     ap (go_on offset (λ more. all_slots last (offset + 32) more (slots ++ tail))) here
     ∙ marks_read last (before ++ mark ∷ []) slots marks tail answer spelled.1 legal.1 tests.1
-    (λ at. subst (λ list. all_slots last at (record { marks = list; free = 0 }) tail ≡ answer) (sym (append_assoc before (mark ∷ []) marks)) (later at)) (offset + 32)
+    (λ at. subst (λ list. all_slots last at (record { marks = list; free = 0 }) tail ≡ answer) (sym (append_assoc before (mark ∷ []) marks))
+    (later at)) (offset + 32)
 
 -- a free slot is closed
 free_closed : (last : ℕ) (read : JournalRead) → one_slot last read free_slot ≡ Ok (record { marks = read.marks; free = read.free + 1 })
@@ -70,10 +78,13 @@ unfolding free_slot
 free_closed last read = refl
 
 -- free slots after others
-free_read : (last : ℕ) (marks : List Mark) (before free offset : ℕ) → all_slots last offset (record { marks = marks; free = before }) (replicate free free_slot) ≡ Ok (record { marks = marks; free = before + free })
-free_read last marks before zero offset = ap (λ count. Ok (record { marks = marks; free = count })) (let same : before ≡ before + 0 = omega arith in same)
+free_read : (last : ℕ) (marks : List Mark) (before free offset : ℕ) → all_slots last offset (record { marks = marks; free = before })
+    (replicate free free_slot) ≡ Ok (record { marks = marks; free = before + free })
+free_read last marks before zero offset =
+    ap (λ count. Ok (record { marks = marks; free = count })) (let same : before ≡ before + 0 = omega arith in same)
 free_read last marks before (suc free) offset =
-    ap (go_on offset (λ more. all_slots last (offset + 32) more (replicate free free_slot))) (free_closed last (record { marks = marks; free = before }))
+    ap (go_on offset (λ more. all_slots last (offset + 32) more (replicate free free_slot)))
+    (free_closed last (record { marks = marks; free = before }))
     ∙ free_read last marks (before + 1) free (offset + 32)
     ∙ ap (λ count. Ok (record { marks = marks; free = count })) (let same : before + 1 + free ≡ before + suc free = omega arith in same)
 
@@ -100,7 +111,8 @@ long_append (slot ∷ slots) other of_one of_other = (of_one.0, long_append slot
 -- such slots one after the other
 long_counted : (slots : List (List ℕ)) → AreLong slots → length (concat slots) ≡ length slots * 32
 long_counted [] long = refl
-long_counted (slot ∷ slots) long = length-append slot (concat slots) ∙ (let rest : length (concat slots) ≡ length slots * 32 = long_counted slots long.1 in omega (arith, long.0))
+long_counted (slot ∷ slots) long = length-append slot (concat slots)
+    ∙ (let rest : length (concat slots) ≡ length slots * 32 = long_counted slots long.1 in omega (arith, long.0))
 
 -- are cut into the same slots
 long_cut : (slots : List (List ℕ)) → AreLong slots → first_chunks 32 (length slots) (concat slots) ≡ slots
@@ -111,7 +123,8 @@ long_cut (slot ∷ slots) long =
     ∙ ap (λ rest. slot ∷ rest) (long_cut slots long.1)
 
 -- bytes that are such slots, and no rest after them
-long_journal : (last : ℕ) (slots : List (List ℕ)) (read : JournalRead) → AreLong slots → all_slots last 0 nothing_read slots ≡ Ok read → journal_in last (Some (concat slots)) ≡ Ok read
+long_journal : (last : ℕ) (slots : List (List ℕ)) (read : JournalRead) → AreLong slots → all_slots last 0 nothing_read slots ≡ Ok read
+    → journal_in last (Some (concat slots)) ≡ Ok read
 unfolding journal_in
 long_journal last slots read long is =
     let bytes : List ℕ = concat slots in
@@ -126,8 +139,10 @@ long_journal last slots read long is =
 pub journals_read_back : JournalsReadBack
 journals_read_back last bytes marks free spelled legal drawn =
     let slots : List (List ℕ) = spelled.slots ++ replicate free free_slot in
-    let long : AreLong slots = long_append spelled.slots (replicate free free_slot) (marks_long spelled.slots marks spelled.spelled) (free_long free) in
+    let long : AreLong slots =
+    long_append spelled.slots (replicate free free_slot) (marks_long spelled.slots marks spelled.spelled) (free_long free) in
     let whole : bytes ≡ concat slots = spelled.text ∙ sym (concat-append spelled.slots (replicate free free_slot)) in
     let read : all_slots last 0 nothing_read slots ≡ Ok (record { marks = marks; free = free }) =
-    marks_read last [] spelled.slots marks (replicate free free_slot) (Ok (record { marks = marks; free = free })) spelled.spelled legal drawn (λ offset. free_read last marks 0 free offset ∙ ap (λ count. Ok (record { marks = marks; free = count })) (zero-add free)) 0 in
+    marks_read last [] spelled.slots marks (replicate free free_slot) (Ok (record { marks = marks; free = free })) spelled.spelled legal
+    drawn (λ offset. free_read last marks 0 free offset ∙ ap (λ count. Ok (record { marks = marks; free = count })) (zero-add free)) 0 in
     ap (λ text. journal_in last (Some text)) whole ∙ long_journal last slots (record { marks = marks; free = free }) long read

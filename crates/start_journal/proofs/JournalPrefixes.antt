@@ -28,7 +28,8 @@ pub chunks_long : (count : ℕ) (bytes : List ℕ) → length (first_chunks 32 c
 chunks_long zero bytes = refl
 chunks_long (suc count) bytes = omega (arith, chunks_long count (drop 32 bytes))
 
-pub chunk_at : (count place : ℕ) (bytes other : List ℕ) → place < count → get_or (first_chunks 32 count bytes) place other ≡ slot_at bytes place
+pub chunk_at : (count place : ℕ) (bytes other : List ℕ) → place < count
+    → get_or (first_chunks 32 count bytes) place other ≡ slot_at bytes place
 chunk_at zero place bytes other inside = absurd (omega arith)
 chunk_at (suc count) zero bytes other inside = refl
 chunk_at (suc count) (suc place) bytes other inside =
@@ -40,7 +41,8 @@ chunk_at (suc count) (suc place) bytes other inside =
 pub slot_inside : (bytes : List ℕ) (place : ℕ) → 32 * place + 32 ≤ length bytes → place < length bytes / 32
 slot_inside bytes place whole = omega arith
 
-pub slot_is : (bytes : List ℕ) (place : ℕ) (other : List ℕ) → 32 * place + 32 ≤ length bytes → get_or (chunks_of bytes) place other ≡ slot_at bytes place
+pub slot_is : (bytes : List ℕ) (place : ℕ) (other : List ℕ) → 32 * place + 32 ≤ length bytes
+    → get_or (chunks_of bytes) place other ≡ slot_at bytes place
 slot_is bytes place other whole = chunk_at (length bytes / 32) place bytes other (slot_inside bytes place whole)
 
 -- Lists of marks, and one more.
@@ -79,30 +81,40 @@ last_of (first ∷ mark ∷ later) (suc count) long =
     let rest : HasLast (mark ∷ later) count = last_of (mark ∷ later) count (omega arith) in
     record { prefix = first ∷ rest.prefix; mark = rest.mark; is = ap (λ l. first ∷ l) rest.is; long = omega (arith, rest.long) }
 
-legal_parts : (before prefix : List Mark) (mark : Mark) → AreLegalMarksAfter before (prefix ++ mark ∷ []) → AreLegalMarksAfter before prefix × IsLegalAfter (before ++ prefix) mark
+legal_parts : (before prefix : List Mark) (mark : Mark) → AreLegalMarksAfter before (prefix ++ mark ∷ [])
+    → AreLegalMarksAfter before prefix × IsLegalAfter (before ++ prefix) mark
 legal_parts before [] mark legal = (tt, subst (λ list. IsLegalAfter list mark) (sym (append-nil before)) legal.0)
 legal_parts before (first ∷ later) mark legal =
-    let rest : AreLegalMarksAfter (before ++ first ∷ []) later × IsLegalAfter ((before ++ first ∷ []) ++ later) mark = legal_parts (before ++ first ∷ []) later mark legal.1 in
+    let rest : AreLegalMarksAfter (before ++ first ∷ []) later × IsLegalAfter ((before ++ first ∷ []) ++ later) mark =
+    legal_parts (before ++ first ∷ []) later mark legal.1 in
     ((legal.0, rest.0), subst (λ list. IsLegalAfter list mark) (append_assoc before (first ∷ []) later) rest.1)
 
-pub legal_more : (before prefix : List Mark) (mark : Mark) → AreLegalMarksAfter before prefix → IsLegalAfter (before ++ prefix) mark → AreLegalMarksAfter before (prefix ++ mark ∷ [])
+pub legal_more : (before prefix : List Mark) (mark : Mark) → AreLegalMarksAfter before prefix → IsLegalAfter (before ++ prefix) mark
+    → AreLegalMarksAfter before (prefix ++ mark ∷ [])
 legal_more before [] mark legal more = (subst (λ list. IsLegalAfter list mark) (append-nil before) more, tt)
-legal_more before (first ∷ later) mark legal more =
-    (legal.0, legal_more (before ++ first ∷ []) later mark legal.1 (subst (λ list. IsLegalAfter list mark) (sym (append_assoc before (first ∷ []) later)) more))
+legal_more before (first ∷ later) mark legal more = (
+  legal.0,
+  legal_more (before ++ first ∷ []) later mark legal.1
+      (subst (λ list. IsLegalAfter list mark) (sym (append_assoc before (first ∷ []) later)) more),
+)
 
 -- another mark names a number where it does
-pub named_more : (number : ℕ) (marks : List Mark) (mark : Mark) → has_mark_of number (marks ++ mark ∷ []) ≡ true → (has_mark_of number marks ≡ true) ⊎ (is_mark_of number mark ≡ true)
+pub named_more : (number : ℕ) (marks : List Mark) (mark : Mark) → has_mark_of number (marks ++ mark ∷ []) ≡ true
+    → (has_mark_of number marks ≡ true) ⊎ (is_mark_of number mark ≡ true)
 named_more number marks mark is = elim (or_cases _ _ (sym (list_any-append (is_mark_of number) marks (mark ∷ [])) ∙ is)) [
   | inl before ↦ inl before
   | inr here ↦ elim (or_cases _ _ here) [ inl one ↦ inr one | inr none ↦ (let impossible : false ≡ true = none in cc) ]
 ]
 
-named_before : (number : ℕ) (marks : List Mark) (mark : Mark) → has_mark_of number marks ≡ true → has_mark_of number (marks ++ mark ∷ []) ≡ true
-named_before number marks mark is = list_any-append (is_mark_of number) marks (mark ∷ []) ∙ ap (λ b. b || (is_mark_of number mark || false)) is
+named_before : (number : ℕ) (marks : List Mark) (mark : Mark) → has_mark_of number marks ≡ true
+    → has_mark_of number (marks ++ mark ∷ []) ≡ true
+named_before number marks mark is = list_any-append (is_mark_of number) marks (mark ∷ [])
+    ∙ ap (λ b. b || (is_mark_of number mark || false)) is
 
 named_last : (number : ℕ) (marks : List Mark) (mark : Mark) → is_mark_of number mark ≡ true → has_mark_of number (marks ++ mark ∷ []) ≡ true
 named_last number marks mark is =
-    list_any-append (is_mark_of number) marks (mark ∷ []) ∙ ap (λ b. has_mark_of number marks || (b || false)) is ∙ or_true (has_mark_of number marks)
+    list_any-append (is_mark_of number) marks (mark ∷ []) ∙ ap (λ b. has_mark_of number marks || (b || false)) is
+    ∙ or_true (has_mark_of number marks)
 
 -- Numbers that were drawn.
 
@@ -144,9 +156,11 @@ drawn_all last mark each = by_test (is_drawn last mark) refl where
 
 -- Right slots.
 
-closed_read : (last : ℕ) (read : JournalRead) (slot : List ℕ) → (slice_index slot 0 == 43) ≡ false → one_slot last read slot ≡ Ok (with_free read)
+closed_read : (last : ℕ) (read : JournalRead) (slot : List ℕ) → (slice_index slot 0 == 43) ≡ false
+    → one_slot last read slot ≡ Ok (with_free read)
 closed_read last read slot closed =
-    ap (λ b. if b then (if read.free == 0 then open_slot last read (mark_in slot) (right_prefix slot) else Err 0) else Ok (with_free read)) closed
+    ap (λ b. if b then (if read.free == 0 then open_slot last read (mark_in slot) (right_prefix slot) else Err 0) else Ok (with_free read))
+    closed
 
 -- slots without a fault give their marks, and the others are free
 abbrev pub AreRead : ℕ → List ℕ → ℕ → List Mark → Type 0
@@ -164,15 +178,18 @@ read_after last bytes (suc place) marks right = elim (eq-or-lt_of_le right.few) 
   whole = let within : 32 * suc place ≤ length bytes = right.within in omega arith
 
   -- one slot more
-  goes_on : (read next : JournalRead) → IsAfter last (chunks_of bytes) place read → one_slot last read (slot_at bytes place) ≡ Ok next → IsAfter last (chunks_of bytes) (suc place) next
+  goes_on : (read next : JournalRead) → IsAfter last (chunks_of bytes) place read → one_slot last read (slot_at bytes place) ≡ Ok next
+      → IsAfter last (chunks_of bytes) (suc place) next
   goes_on read next before one =
       let inside : place < length bytes / 32 = slot_inside bytes place whole in
       let counted : length (chunks_of bytes) ≡ length bytes / 32 = chunks_long (length bytes / 32) bytes in
       let more : place + 1 ≡ suc place = omega arith in
       subst (λ at. IsAfter last (chunks_of bytes) at next) more
-      (one_after last place (chunks_of bytes) read next [] before (omega arith) (ap (one_slot last read) (slot_is bytes place [] whole) ∙ one))
+      (one_after last place (chunks_of bytes) read next [] before (omega arith)
+      (ap (one_slot last read) (slot_is bytes place [] whole) ∙ one))
 
-  closed : AreRead last bytes place marks → length marks ≤ place → IsAfter last (chunks_of bytes) (suc place) (record { marks = marks; free = suc place - length marks })
+  closed : AreRead last bytes place marks → length marks ≤ place
+      → IsAfter last (chunks_of bytes) (suc place) (record { marks = marks; free = suc place - length marks })
   closed so_far few =
       let before : IsRightBefore last bytes place marks = record {
         within = omega (arith, whole);
@@ -190,14 +207,16 @@ read_after last bytes (suc place) marks right = elim (eq-or-lt_of_le right.few) 
       subst (λ n. IsAfter last (chunks_of bytes) (suc place) (record { marks = marks; free = n })) free
       (goes_on (record { marks = marks; free = place - length marks }) _ (so_far before) (closed_read last _ (slot_at bytes place) gate))
 
-  opened : ((prefix : List Mark) → AreRead last bytes place prefix) → length marks ≡ suc place → IsAfter last (chunks_of bytes) (suc place) (record { marks = marks; free = suc place - length marks })
+  opened : ((prefix : List Mark) → AreRead last bytes place prefix) → length marks ≡ suc place
+      → IsAfter last (chunks_of bytes) (suc place) (record { marks = marks; free = suc place - length marks })
   opened so_far full =
       let parts : HasLast marks place = last_of marks place full in
       let all : AreLegalMarks (parts.prefix ++ parts.mark ∷ []) = subst AreLegalMarks parts.is right.legal in
       let legal : AreLegalMarks parts.prefix × IsLegalAfter parts.prefix parts.mark = legal_parts [] parts.prefix parts.mark all in
       let drawn : (number : ℕ) → has_mark_of number (parts.prefix ++ parts.mark ∷ []) ≡ true → number ≤ last =
       subst (λ list. (number : ℕ) → has_mark_of number list ≡ true → number ≤ last) parts.is right.drawn in
-      let spelled : (at : ℕ) (mark : Mark) → slice_get (parts.prefix ++ parts.mark ∷ []) at ≡ Some mark → SpellsMark (slot_at bytes at) mark =
+      let spelled : (at : ℕ) (mark : Mark) → slice_get (parts.prefix ++ parts.mark ∷ []) at ≡ Some mark
+      → SpellsMark (slot_at bytes at) mark =
       subst (λ list. (at : ℕ) (mark : Mark) → slice_get list at ≡ Some mark → SpellsMark (slot_at bytes at) mark) parts.is right.spelled in
       let long : length parts.prefix ≡ place = parts.long in
       let before : IsRightBefore last bytes place parts.prefix = record {
@@ -208,13 +227,17 @@ read_after last bytes (suc place) marks right = elim (eq-or-lt_of_le right.few) 
         legal = legal.0;
         drawn = λ number named. drawn number (named_before number parts.prefix parts.mark named);
       } in
-      let spells : SpellsMark (slot_at bytes place) parts.mark = subst (λ at. SpellsMark (slot_at bytes at) parts.mark) long (spelled (length parts.prefix) parts.mark (get_last parts.prefix parts.mark)) in
+      let spells : SpellsMark (slot_at bytes place) parts.mark = subst (λ at. SpellsMark (slot_at bytes at) parts.mark) long
+      (spelled (length parts.prefix) parts.mark (get_last parts.prefix parts.mark)) in
       let none : place - length parts.prefix ≡ 0 = omega arith in
       let still : place - length parts.prefix ≡ suc place - length marks = omega arith in
-      let more : IsAfter last (chunks_of bytes) (suc place) (record { marks = parts.prefix ++ parts.mark ∷ []; free = place - length parts.prefix }) =
+      let more : IsAfter last (chunks_of bytes) (suc place)
+      (record { marks = parts.prefix ++ parts.mark ∷ []; free = place - length parts.prefix }) =
       goes_on (record { marks = parts.prefix; free = place - length parts.prefix }) _ (so_far parts.prefix before)
-      (taken last (record { marks = parts.prefix; free = place - length parts.prefix }) (slot_at bytes place) parts.mark spells.fields.gate none spells
+      (taken last (record { marks = parts.prefix; free = place - length parts.prefix }) (slot_at bytes place) parts.mark
+      spells.fields.gate none spells
       (sym (legal_tested parts.prefix parts.mark legal.1))
       (sym (drawn_all last parts.mark (λ number named. drawn number (named_last number parts.prefix parts.mark named))))) in
       subst (λ n. IsAfter last (chunks_of bytes) (suc place) (record { marks = marks; free = n })) still
-      (subst (λ list. IsAfter last (chunks_of bytes) (suc place) (record { marks = list; free = place - length parts.prefix })) (sym parts.is) more)
+      (subst (λ list. IsAfter last (chunks_of bytes) (suc place) (record { marks = list; free = place - length parts.prefix }))
+      (sym parts.is) more)

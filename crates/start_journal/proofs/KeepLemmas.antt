@@ -23,7 +23,8 @@ last_more [] mark = refl_none (batch_second mark) where
   refl_none None = refl
   refl_none (Some second) = refl
 last_more (first ∷ later) mark =
-    ap (λ found. first_of_two found (batch_second first)) (last_more later mark) ∙ regroup (batch_second mark) (last_batch later) (batch_second first) where
+    ap (λ found. first_of_two found (batch_second first)) (last_more later mark)
+    ∙ regroup (batch_second mark) (last_batch later) (batch_second first) where
       regroup : (one two three : Option ℤ) → first_of_two (first_of_two one two) three ≡ first_of_two one (first_of_two two three)
       regroup None two three = refl
       regroup (Some second) two three = refl
@@ -33,17 +34,22 @@ or_first : (one other : Option ℤ) → option_or one other ≡ first_of_two one
 or_first None other = refl
 or_first (Some second) other = refl
 
-pub pass_more : (marks : List Mark) (place : ℕ) (other : Mark) (found last answer : Option ℤ) → place < length marks → found ≡ batch_second (get_or marks place other) → last ≡ last_batch (take place marks) → answer ≡ option_or found last → answer ≡ last_batch (take (place + 1) marks)
+pub pass_more : (marks : List Mark) (place : ℕ) (other : Mark) (found last answer : Option ℤ) → place < length marks
+    → found ≡ batch_second (get_or marks place other) → last ≡ last_batch (take place marks) → answer ≡ option_or found last
+    → answer ≡ last_batch (take (place + 1) marks)
 pass_more marks place other found last answer inside here before is =
     is ∙ or_first found last
     ∙ sym (ap last_batch (take_more marks place other inside) ∙ last_more (take place marks) (get_or marks place other)
     ∙ ap (λ one. first_of_two one (last_batch (take place marks))) (sym here) ∙ ap (first_of_two found) (sym before))
 
 -- the forgotten numbers of a list and one more mark
-pub forgotten_pass : (number : ℕ) (marks : List Mark) (place : ℕ) (other : Mark) (old new : Bool) → place < length marks → old ≡ is_forgotten number (take place marks) → new ≡ (old || is_forgetting number (get_or marks place other)) → new ≡ is_forgotten number (take (place + 1) marks)
+pub forgotten_pass : (number : ℕ) (marks : List Mark) (place : ℕ) (other : Mark) (old new : Bool) → place < length marks
+    → old ≡ is_forgotten number (take place marks) → new ≡ (old || is_forgetting number (get_or marks place other))
+    → new ≡ is_forgotten number (take (place + 1) marks)
 forgotten_pass number marks place other old new inside before is =
     is ∙ ap (λ b. b || is_forgetting number (get_or marks place other)) before
-    ∙ sym (ap (is_forgotten number) (take_more marks place other inside) ∙ any_more (is_forgetting number) (take place marks) (get_or marks place other))
+    ∙ sym (ap (is_forgotten number) (take_more marks place other inside)
+    ∙ any_more (is_forgetting number) (take place marks) (get_or marks place other))
 
 -- what is kept can be written
 all_filtered : (test keep : Mark → Bool) (marks : List Mark) → list_all test marks ≡ true → list_all test (filter keep marks) ≡ true
@@ -51,18 +57,21 @@ all_filtered test keep [] all = refl
 all_filtered test keep (mark ∷ later) all =
     let tests : (test mark ≡ true) × (list_all test later ≡ true) = and_parts _ _ all in
     by_keep (keep mark) (all_filtered test keep later tests.1) tests.0 where
-      by_keep : (kept : Bool) → list_all test (filter keep later) ≡ true → test mark ≡ true → list_all test (cond kept (mark ∷ filter keep later) (filter keep later)) ≡ true
+      by_keep : (kept : Bool) → list_all test (filter keep later) ≡ true → test mark ≡ true
+          → list_all test (cond kept (mark ∷ filter keep later) (filter keep later)) ≡ true
       by_keep true rest here = and_from (test mark) _ here rest
       by_keep false rest here = rest
 
-all_append : (test : Mark → Bool) (one other : List Mark) → list_all test one ≡ true → list_all test other ≡ true → list_all test (one ++ other) ≡ true
+all_append : (test : Mark → Bool) (one other : List Mark) → list_all test one ≡ true → list_all test other ≡ true
+    → list_all test (one ++ other) ≡ true
 all_append test [] other of_one of_other = of_other
 all_append test (mark ∷ later) other of_one of_other =
     let tests : (test mark ≡ true) × (list_all test later ≡ true) = and_parts _ _ of_one in
     and_from (test mark) _ tests.0 (all_append test later other tests.1 of_other)
 
 -- the second of a mark that can be written
-second_of : (mark : Mark) (found : Option ℤ) → can_write mark ≡ true → batch_second mark ≡ found → list_all can_write (batch_mark found) ≡ true
+second_of : (mark : Mark) (found : Option ℤ) → can_write mark ≡ true → batch_second mark ≡ found
+    → list_all can_write (batch_mark found) ≡ true
 second_of mark None writable is = refl
 second_of (Removed number) (Some second) writable is = cc
 second_of (Started number queue start) (Some second) writable is = by_queue (is_batch_queue queue) refl where
@@ -86,7 +95,8 @@ batch_writable [] all = refl
 batch_writable (mark ∷ later) all =
     let tests : (can_write mark ≡ true) × (list_all can_write later ≡ true) = and_parts _ _ all in
     by_last (last_batch later) (batch_writable later tests.1) (second_of mark (batch_second mark) tests.0 refl) where
-      by_last : (last : Option ℤ) → list_all can_write (batch_mark last) ≡ true → list_all can_write (batch_mark (batch_second mark)) ≡ true → list_all can_write (batch_mark (first_of_two last (batch_second mark))) ≡ true
+      by_last : (last : Option ℤ) → list_all can_write (batch_mark last) ≡ true → list_all can_write (batch_mark (batch_second mark)) ≡ true
+          → list_all can_write (batch_mark (first_of_two last (batch_second mark))) ≡ true
       by_last None rest here = here
       by_last (Some second) rest here = rest
 

@@ -22,13 +22,15 @@ or_grouped : {X : Type 0} → (one other third : Option X) → option_or one (op
 or_grouped (Some x) other third = refl
 or_grouped None other third = refl
 
-pub started_more : (number : ℕ) (before : List Mark) (mark : Mark) → started_at number (before ++ mark ∷ []) ≡ option_or (started_at number before) (start_second number mark)
+pub started_more : (number : ℕ) (before : List Mark) (mark : Mark)
+    → started_at number (before ++ mark ∷ []) ≡ option_or (started_at number before) (start_second number mark)
 started_more number [] mark = or_nothing (start_second number mark)
 started_more number (first ∷ before) mark =
     ap (option_or (start_second number first)) (started_more number before mark)
     ∙ or_grouped (start_second number first) (started_at number before) (start_second number mark)
 
-fate_more : (number : ℕ) (before : List Mark) (mark : Mark) → fate_at number (before ++ mark ∷ []) ≡ option_or (fate_at number before) (fate_given number mark)
+fate_more : (number : ℕ) (before : List Mark) (mark : Mark)
+    → fate_at number (before ++ mark ∷ []) ≡ option_or (fate_at number before) (fate_given number mark)
 fate_more number [] mark = or_nothing (fate_given number mark)
 fate_more number (first ∷ before) mark =
     ap (option_or (fate_given number first)) (fate_more number before mark)
@@ -38,20 +40,26 @@ fate_more number (first ∷ before) mark =
 same_life : (one other : Lifecycle) → one.started ≡ other.started → one.fate ≡ other.fate → one.forgotten ≡ other.forgotten → one ≡ other
 same_life one other starts fates forgot = λ i. record { started = starts i; fate = fates i; forgotten = forgot i }
 
-life_more : (number : ℕ) (before : List Mark) (mark : Mark) → lifecycle_at number (before ++ mark ∷ []) ≡ lifecycle_with number mark (lifecycle_at number before)
+life_more : (number : ℕ) (before : List Mark) (mark : Mark)
+    → lifecycle_at number (before ++ mark ∷ []) ≡ lifecycle_with number mark (lifecycle_at number before)
 life_more number before mark =
     same_life _ _ (started_more number before mark) (fate_more number before mark) (any_more (is_forgetting number) before mark)
 
 -- what is known with a legal mark more
-pub told_more : (marks more : List Mark) (old new : Lifecycles) (mark : Mark) → more ≡ marks ++ mark ∷ [] → ((number : ℕ) → lifecycle_in new number ≡ lifecycle_with number mark (lifecycle_in old number))
+pub told_more : (marks more : List Mark) (old new : Lifecycles) (mark : Mark) → more ≡ marks ++ mark ∷ []
+    → ((number : ℕ) → lifecycle_in new number ≡ lifecycle_with number mark (lifecycle_in old number))
     → TellLifecycles marks old → IsLegalAfter marks mark → TellLifecycles more new
 told_more marks more old new mark is adds tell legal =
-    subst (λ list. TellLifecycles list new) (sym is)
-    (legal_longer [] marks mark tell.0 legal, λ number. adds number ∙ ap (lifecycle_with number mark) (tell.1 number) ∙ sym (life_more number marks mark))
+    subst (λ list. TellLifecycles list new) (sym is) (
+      legal_longer [] marks mark tell.0 legal,
+      λ number. adds number ∙ ap (lifecycle_with number mark) (tell.1 number) ∙ sym (life_more number marks mark),
+    )
 
 -- the same marks and lives
-pub told_again : (marks more : List Mark) (old new : Lifecycles) → more ≡ marks → new ≡ old → TellLifecycles marks old → TellLifecycles more new
-told_again marks more old new same_marks same_lives tell = subst (λ list. TellLifecycles list new) (sym same_marks) (subst (TellLifecycles marks) (sym same_lives) tell)
+pub told_again : (marks more : List Mark) (old new : Lifecycles) → more ≡ marks → new ≡ old → TellLifecycles marks old
+    → TellLifecycles more new
+told_again marks more old new same_marks same_lives tell =
+    subst (λ list. TellLifecycles list new) (sym same_marks) (subst (TellLifecycles marks) (sym same_lives) tell)
 
 -- The tests of a number.
 
@@ -75,7 +83,8 @@ decides_given number (Batch second) = refl
 pub decided_has_fate : (number : ℕ) (marks : List Mark) → is_decided number marks ≡ is_some (fate_at number marks)
 decided_has_fate number [] = refl
 decided_has_fate number (mark ∷ later) =
-    ap (λ b. b || is_decided number later) (decides_given number mark) ∙ ap (λ b. is_some (fate_given number mark) || b) (decided_has_fate number later)
+    ap (λ b. b || is_decided number later) (decides_given number mark)
+    ∙ ap (λ b. is_some (fate_given number mark) || b) (decided_has_fate number later)
     ∙ some_or (fate_given number mark) (fate_at number later)
 
 starts_given : (number : ℕ) (mark : Mark) → is_start_of number mark ≡ is_some (start_second number mark)
@@ -90,13 +99,16 @@ starts_given number (Batch second) = refl
 pub started_has_second : (number : ℕ) (marks : List Mark) → has_start_of number marks ≡ is_some (started_at number marks)
 started_has_second number [] = refl
 started_has_second number (mark ∷ later) =
-    ap (λ b. b || has_start_of number later) (starts_given number mark) ∙ ap (λ b. is_some (start_second number mark) || b) (started_has_second number later)
+    ap (λ b. b || has_start_of number later) (starts_given number mark)
+    ∙ ap (λ b. is_some (start_second number mark) || b) (started_has_second number later)
     ∙ some_or (start_second number mark) (started_at number later)
 
 -- what the life of a number allows is what is legal
-pub life_allows : (marks : List Mark) (lives : Lifecycles) (number : ℕ) (mark : Mark) → number_of_mark mark ≡ Some number → TellLifecycles marks lives → allows (stage_of (lifecycle_in lives number)) mark ≡ is_legal_after marks mark
+pub life_allows : (marks : List Mark) (lives : Lifecycles) (number : ℕ) (mark : Mark) → number_of_mark mark ≡ Some number
+    → TellLifecycles marks lives → allows (stage_of (lifecycle_in lives number)) mark ≡ is_legal_after marks mark
 life_allows marks lives number mark is tell =
     ap (λ (life : Lifecycle). allows (stage_of life) mark) (tell.1 number)
-    ∙ ap (λ b. allows (stage_by (is_forgotten number marks) b (is_some (started_at number marks))) mark) (sym (decided_has_fate number marks))
+    ∙ ap (λ b. allows (stage_by (is_forgotten number marks) b (is_some (started_at number marks))) mark)
+    (sym (decided_has_fate number marks))
     ∙ ap (λ b. allows (stage_by (is_forgotten number marks) (is_decided number marks) b) mark) (sym (started_has_second number marks))
     ∙ allowed_legal number marks mark (named_is number mark is) tell.0

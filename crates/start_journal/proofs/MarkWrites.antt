@@ -24,12 +24,16 @@ temporary_apart : ¬ (temporary_file ≡ journal_file)
 temporary_apart same = let impossible : true ≡ false = sym ((bytes_eq-Decides temporary_file journal_file).1 same) in cc
 
 -- one file was left alone, and then it was again
-through : (name : List ℕ) (start middle : Directory) (image : Files) → ((from : Files) → IsImage middle from → LeavesOthers (λ other. other ≡ name) start from) → LeavesOthers (λ other. other ≡ name) middle image → LeavesOthers (λ other. other ≡ name) start image
+through : (name : List ℕ) (start middle : Directory) (image : Files)
+    → ((from : Files) → IsImage middle from → LeavesOthers (λ other. other ≡ name) start from)
+    → LeavesOthers (λ other. other ≡ name) middle image → LeavesOthers (λ other. other ≡ name) start image
 through name start middle image before alone =
     let first : LeavesOthers (λ other. other ≡ name) start alone.from = before alone.from alone.was in
     record { from = first.from; was = first.was; others = λ other apart. alone.others other apart ∙ first.others other apart }
 
-module _ (name : List ℕ) (journal : JournalRead) (mark : Mark) (slot : List ℕ) (offset : ℕ) (start : Directory) (is_name : name ≡ journal_file) (free : 1 ≤ journal.free) (legal : IsLegalAfter journal.marks mark) (spelled : SpellsMark slot mark) (at : offset ≡ 32 * length journal.marks) (holds : HoldsJournal journal start) where
+module _ (name : List ℕ) (journal : JournalRead) (mark : Mark) (slot : List ℕ) (offset : ℕ) (start : Directory)
+    (is_name : name ≡ journal_file) (free : 1 ≤ journal.free) (legal : IsLegalAfter journal.marks mark) (spelled : SpellsMark slot mark)
+    (at : offset ≡ 32 * length journal.marks) (holds : HoldsJournal journal start) where
   gives_there : GivesReadJournal (map.get (reading_of start) name) journal
   gives_there = subst (λ at_name. GivesReadJournal (map.get (reading_of start) at_name) journal) (sym is_name) holds.gives
 
@@ -54,35 +58,49 @@ module _ (name : List ℕ) (journal : JournalRead) (mark : Mark) (slot : List �
 
   -- the slot lies within the file
   pub rest_within : IsWithinFile (reading_of start) name (offset + 1) (length rest)
-  rest_within = subst (λ content. IsSomeAnd content (λ bytes. offset + 1 + length rest ≤ length bytes)) (sym held.is) (omega (arith, held.long, after_long))
+  rest_within = subst (λ content. IsSomeAnd content (λ bytes. offset + 1 + length rest ≤ length bytes)) (sym held.is)
+      (omega (arith, held.long, after_long))
 
   -- other files are left alone
-  widened : (image : Files) → LeavesOthers (λ other. other ≡ name) start image → LeavesOthers (IsEither temporary_file journal_file) start image
-  widened image alone = record { from = alone.from; was = alone.was; others = λ other apart. alone.others other (λ same. apart (inr (same ∙ is_name))) }
+  widened : (image : Files) → LeavesOthers (λ other. other ≡ name) start image
+      → LeavesOthers (IsEither temporary_file journal_file) start image
+  widened image alone =
+      record { from = alone.from; was = alone.was; others = λ other apart. alone.others other (λ same. apart (inr (same ∙ is_name))) }
 
   -- while the slot is written after its gate
-  half_changing : (image : Files) → IsOverwriting name (offset + 1) (length rest) start image → IsChanging journal (added journal mark) start image
+  half_changing : (image : Files) → IsOverwriting name (offset + 1) (length rest) start image
+      → IsChanging journal (added journal mark) start image
   half_changing image over = record {
     alone = widened image over.alone;
     gives = inl (subst (λ content. GivesReadJournal content journal)
-        (sym (ap (map.get image) (sym is_name) ∙ over.written ∙ ap (option_map (λ bytes. overwritten bytes (offset + 1) over.part)) held.is ∙ ap (λ n. Some (overwritten held.bytes (n + 1) over.part)) at))
+        (sym (ap (map.get image) (sym is_name) ∙ over.written ∙ ap (option_map (λ bytes. overwritten bytes (offset + 1) over.part)) held.is
+        ∙ ap (λ n. Some (overwritten held.bytes (n + 1) over.part)) at))
         (half_gives journal mark slot held.bytes free legal spelled gives held.long over.part (over.as_long ∙ after_long)));
   }
 
-  pub half_files : (old new : World) → ChangesFiles (IsOverwriting name (offset + 1) (length rest) start) old new → ChangesFiles (IsChanging journal (added journal mark) start) old new
+  pub half_files : (old new : World) → ChangesFiles (IsOverwriting name (offset + 1) (length rest) start) old new
+      → ChangesFiles (IsChanging journal (added journal mark) start) old new
   half_files old new changes = changes_weaker _ _ old new half_changing changes
 
   -- once it is
   module _ (middle : Directory) (half : IsOverwritten name (offset + 1) rest start middle) where
     reads_half : map.get (reading_of middle) name ≡ Some (overwritten held.bytes (32 * length journal.marks + 1) rest)
-    reads_half = half.written ∙ ap (option_map (λ bytes. overwritten bytes (offset + 1) rest)) held.is ∙ ap (λ n. Some (overwritten held.bytes (n + 1) rest)) at
+    reads_half = half.written ∙ ap (option_map (λ bytes. overwritten bytes (offset + 1) rest)) held.is
+        ∙ ap (λ n. Some (overwritten held.bytes (n + 1) rest)) at
 
     pub gate_within : IsWithinFile (reading_of middle) name offset (length gate)
     gate_within = subst (λ content. IsSomeAnd content (λ bytes. offset + length gate ≤ length bytes)) (sym reads_half)
-        (omega (arith, held.long, gate_long, after_long, over_long held.bytes (32 * length journal.marks + 1) rest (omega (arith, held.long, after_long))))
+        (omega (
+          arith,
+          held.long,
+          gate_long,
+          after_long,
+          over_long held.bytes (32 * length journal.marks + 1) rest (omega (arith, held.long, after_long)),
+        ))
 
     -- what the file reads as with some byte at the gate
-    reads_whole : (content : Option (List ℕ)) (part : List ℕ) → content ≡ option_map (λ bytes. overwritten bytes offset part) (map.get (reading_of middle) name)
+    reads_whole : (content : Option (List ℕ)) (part : List ℕ)
+        → content ≡ option_map (λ bytes. overwritten bytes offset part) (map.get (reading_of middle) name)
         → content ≡ Some (overwritten (overwritten held.bytes (32 * length journal.marks + 1) rest) (32 * length journal.marks) part)
     reads_whole content part is =
         is ∙ ap (option_map (λ bytes. overwritten bytes offset part)) reads_half
@@ -90,28 +108,35 @@ module _ (name : List ℕ) (journal : JournalRead) (mark : Mark) (slot : List �
 
     -- with the gate open
     opened : (content : Option (List ℕ)) (part : List ℕ) → length part ≡ 1 → slice_index part 0 ≡ 43
-        → content ≡ option_map (λ bytes. overwritten bytes offset part) (map.get (reading_of middle) name) → GivesReadJournal content (added journal mark)
+        → content ≡ option_map (λ bytes. overwritten bytes offset part) (map.get (reading_of middle) name)
+        → GivesReadJournal content (added journal mark)
     opened content part one open_gate is =
-        subst (λ some. GivesReadJournal some (added journal mark)) (sym (reads_whole content part is)) (open_gives journal mark slot held.bytes free legal spelled gives held.long part one open_gate)
+        subst (λ some. GivesReadJournal some (added journal mark)) (sym (reads_whole content part is))
+        (open_gives journal mark slot held.bytes free legal spelled gives held.long part one open_gate)
 
     closed : (content : Option (List ℕ)) (part : List ℕ) → length part ≡ 1 → ¬ (slice_index part 0 ≡ 43)
-        → content ≡ option_map (λ bytes. overwritten bytes offset part) (map.get (reading_of middle) name) → GivesReadJournal content journal
+        → content ≡ option_map (λ bytes. overwritten bytes offset part) (map.get (reading_of middle) name)
+        → GivesReadJournal content journal
     closed content part one closed_gate is =
         subst (λ some. GivesReadJournal some journal) (sym (reads_whole content part is))
         (closed_gives journal mark slot held.bytes free legal spelled gives held.long rest after_long part one closed_gate)
 
     -- while the gate is written
-    gate_changing : (image : Files) → IsOverwriting name offset (length gate) middle image → IsChanging journal (added journal mark) start image
+    gate_changing : (image : Files) → IsOverwriting name offset (length gate) middle image
+        → IsChanging journal (added journal mark) start image
     gate_changing image over = record {
       alone = widened image (through name start middle image half.alone over.alone);
       gives = elim (eqb_tells (slice_index over.part 0) 43) [
-        | inl open_gate ↦ inr (opened (map.get image journal_file) over.part (over.as_long ∙ gate_long) open_gate.1 (ap (map.get image) (sym is_name) ∙ over.written))
-        | inr other ↦ inl (closed (map.get image journal_file) over.part (over.as_long ∙ gate_long) other.1 (ap (map.get image) (sym is_name) ∙ over.written))
+        | inl open_gate ↦ inr (opened (map.get image journal_file) over.part (over.as_long ∙ gate_long) open_gate.1
+            (ap (map.get image) (sym is_name) ∙ over.written))
+        | inr other ↦ inl (closed (map.get image journal_file) over.part (over.as_long ∙ gate_long) other.1
+            (ap (map.get image) (sym is_name) ∙ over.written))
       ];
     }
 
     pub gate_files : (old between new : World) → ChangesFiles (IsOverwriting name (offset + 1) (length rest) start) old between
-        → ChangesFiles (IsOverwriting name offset (length gate) middle) between new → ChangesFiles (IsChanging journal (added journal mark) start) old new
+        → ChangesFiles (IsOverwriting name offset (length gate) middle) between new
+        → ChangesFiles (IsChanging journal (added journal mark) start) old new
     gate_files old between new first second = changes_on _ _ _ old between new half_changing gate_changing first second
 
     -- and once it is
@@ -123,8 +148,10 @@ module _ (name : List ℕ) (journal : JournalRead) (mark : Mark) (slot : List �
         gives = opened (map.get (reading_of new) journal_file) gate gate_long
             (get_or-take 1 slot 0 0 (omega arith) ∙ spelled.fields.gate) (ap (map.get (reading_of new)) (sym is_name) ∙ whole.written);
         no_temp = λ image is.
-            let from : LeavesOthers (λ other. other ≡ name) start image = through name start middle image half.alone (whole.alone image is) in
+            let from : LeavesOthers (λ other. other ≡ name) start image =
+            through name start middle image half.alone (whole.alone image is) in
             from.others temporary_file (λ same. temporary_apart (same ∙ is_name)) ∙ holds.no_temp from.from from.was;
       };
-      others = λ other apart. whole.others other (λ same. apart (inr (same ∙ is_name))) ∙ half.others other (λ same. apart (inr (same ∙ is_name)));
+      others = λ other apart. whole.others other (λ same. apart (inr (same ∙ is_name)))
+          ∙ half.others other (λ same. apart (inr (same ∙ is_name)));
     }

@@ -18,17 +18,20 @@ not_digits bytes none = by_test (are_digits bytes) refl where
   by_test false digits = digits
 
 -- the first digits of a number of a job
-pub number_begun : (kind number : ℕ) (digits : List ℕ) → (kind ≡ 66 → ⊥) → SpellsNumber digits number → is_number_prefix kind digits ≡ (nat_lt (length digits) 8 || nat_le 1 number)
+pub number_begun : (kind number : ℕ) (digits : List ℕ) → (kind ≡ 66 → ⊥) → SpellsNumber digits number
+    → is_number_prefix kind digits ≡ (nat_lt (length digits) 8 || nat_le 1 number)
 number_begun kind number digits other spelled =
     let kinds : (kind == 66) ≡ false = grind (arith, nat_tests) in
     ap (λ b. if b then are_zeros digits else (are_digits digits && (nat_lt (length digits) 8 || nat_le 1 (value_of_digits digits)))) kinds
     ∙ ap (λ b. b && (nat_lt (length digits) 8 || nat_le 1 (value_of_digits digits))) (spelled_digits digits number spelled)
     ∙ ap (λ n. nat_lt (length digits) 8 || nat_le 1 n) (value_spelled digits number spelled)
 
-pub no_number_begun : (kind : ℕ) (digits : List ℕ) → (kind ≡ 66 → ⊥) → ((number : ℕ) → ¬ (SpellsNumber digits number)) → false ≡ is_number_prefix kind digits
+pub no_number_begun : (kind : ℕ) (digits : List ℕ) → (kind ≡ 66 → ⊥) → ((number : ℕ) → ¬ (SpellsNumber digits number))
+    → false ≡ is_number_prefix kind digits
 no_number_begun kind digits other none =
     let kinds : (kind == 66) ≡ false = grind (arith, nat_tests) in
-    sym (ap (λ b. if b then are_zeros digits else (are_digits digits && (nat_lt (length digits) 8 || nat_le 1 (value_of_digits digits)))) kinds
+    sym
+    (ap (λ b. if b then are_zeros digits else (are_digits digits && (nat_lt (length digits) 8 || nat_le 1 (value_of_digits digits)))) kinds
     ∙ ap (λ b. b && (nat_lt (length digits) 8 || nat_le 1 (value_of_digits digits))) (not_digits digits none))
 
 -- the first digits of a second
@@ -38,22 +41,28 @@ second_digits digits = are_digits digits && nat_le (value_of_digits digits) (uns
 has_second : (kind : ℕ) → ((kind ≡ 83 → ⊥) × (kind ≡ 66)) ⊎ (kind ≡ 83) → (kind == 83 || kind == 66) ≡ true
 has_second kind either = grind (arith, nat_tests)
 
-second_kind : (kind : ℕ) (digits : List ℕ) → ((kind ≡ 83 → ⊥) × (kind ≡ 66)) ⊎ (kind ≡ 83) → is_second_prefix kind digits ≡ second_digits digits
+second_kind : (kind : ℕ) (digits : List ℕ) → ((kind ≡ 83 → ⊥) × (kind ≡ 66)) ⊎ (kind ≡ 83)
+    → is_second_prefix kind digits ≡ second_digits digits
 second_kind kind digits either = ap (λ b. if b then second_digits digits else are_zeros digits) (has_second kind either)
 
-pub second_begun : (kind prefix : ℕ) (digits : List ℕ) → ((kind ≡ 83 → ⊥) × (kind ≡ 66)) ⊎ (kind ≡ 83) → SpellsNumber digits prefix → nat_le prefix (unsigned_abs LAST_SECOND / 2 ^ (4 * (16 - length digits))) ≡ is_second_prefix kind digits
+pub second_begun : (kind prefix : ℕ) (digits : List ℕ) → ((kind ≡ 83 → ⊥) × (kind ≡ 66)) ⊎ (kind ≡ 83) → SpellsNumber digits prefix
+    → nat_le prefix (unsigned_abs LAST_SECOND / 2 ^ (4 * (16 - length digits))) ≡ is_second_prefix kind digits
 second_begun kind prefix digits either spelled =
     sym (second_kind kind digits either
-    ∙ ap (λ b. b && nat_le (value_of_digits digits) (unsigned_abs LAST_SECOND / 16 ^ (16 - length digits))) (spelled_digits digits prefix spelled)
+    ∙ ap (λ b. b && nat_le (value_of_digits digits) (unsigned_abs LAST_SECOND / 16 ^ (16 - length digits)))
+    (spelled_digits digits prefix spelled)
     ∙ ap (λ n. nat_le n (unsigned_abs LAST_SECOND / 16 ^ (16 - length digits))) (value_spelled digits prefix spelled)
     ∙ ap (λ power. nat_le prefix (unsigned_abs LAST_SECOND / power)) (power_of_two (16 - length digits)))
 
-pub no_second_begun : (kind : ℕ) (digits : List ℕ) → ((kind ≡ 83 → ⊥) × (kind ≡ 66)) ⊎ (kind ≡ 83) → ((number : ℕ) → ¬ (SpellsNumber digits number)) → false ≡ is_second_prefix kind digits
+pub no_second_begun : (kind : ℕ) (digits : List ℕ) → ((kind ≡ 83 → ⊥) × (kind ≡ 66)) ⊎ (kind ≡ 83)
+    → ((number : ℕ) → ¬ (SpellsNumber digits number)) → false ≡ is_second_prefix kind digits
 no_second_begun kind digits either none =
-    sym (second_kind kind digits either ∙ ap (λ b. b && nat_le (value_of_digits digits) (unsigned_abs LAST_SECOND / 16 ^ (16 - length digits))) (not_digits digits none))
+    sym (second_kind kind digits either
+    ∙ ap (λ b. b && nat_le (value_of_digits digits) (unsigned_abs LAST_SECOND / 16 ^ (16 - length digits))) (not_digits digits none))
 
 -- the first bytes may be in their places, and the next one may not
-standing : (slot : List ℕ) (count place : ℕ) (later : List ℕ) → place ≤ count → count ≤ place + length later → ((at : ℕ) → at < count → may_stand slot at ≡ true) → (count < place + length later → may_stand slot count ≡ false) → standing_from slot place later ≡ count
+standing : (slot : List ℕ) (count place : ℕ) (later : List ℕ) → place ≤ count → count ≤ place + length later → ((at : ℕ) → at < count
+    → may_stand slot at ≡ true) → (count < place + length later → may_stand slot count ≡ false) → standing_from slot place later ≡ count
 standing slot count place [] from to each next = let same : place ≡ count = omega arith in same
 standing slot count place (byte ∷ later) from to each next = elim (eq-or-lt_of_le from) [
   | inl same ↦ ap (λ b. if b then standing_from slot (suc place) later else place) (ap (may_stand slot) same ∙ next (omega arith)) ∙ same
@@ -62,6 +71,7 @@ standing slot count place (byte ∷ later) from to each next = elim (eq-or-lt_of
       ∙ standing slot count (suc place) later (omega arith) (omega arith) each (λ inside. next (omega arith))
 ]
 
-pub prefix_is : (slot : List ℕ) (count : ℕ) → count ≤ length slot → ((at : ℕ) → at < count → may_stand slot at ≡ true) → (count < length slot → may_stand slot count ≡ false) → count ≡ right_prefix slot
+pub prefix_is : (slot : List ℕ) (count : ℕ) → count ≤ length slot → ((at : ℕ) → at < count → may_stand slot at ≡ true)
+    → (count < length slot → may_stand slot count ≡ false) → count ≡ right_prefix slot
 unfolding right_prefix
 prefix_is slot count inside each next = sym (standing slot count 0 slot (omega arith) (omega arith) each (λ more. next (omega arith)))

@@ -19,7 +19,8 @@ pub record DiffersInSlot (place : ℕ) (old new : List ℕ) : Type 0 where
   pub after : (at : ℕ) → 32 * place + 32 ≤ at → slice_index new at ≡ slice_index old at
 
 -- one change after another
-pub differs_then : (place : ℕ) (old middle new : List ℕ) → DiffersInSlot place old middle → DiffersInSlot place middle new → DiffersInSlot place old new
+pub differs_then : (place : ℕ) (old middle new : List ℕ) → DiffersInSlot place old middle → DiffersInSlot place middle new
+    → DiffersInSlot place old new
 differs_then place old middle new first second = record {
   counted = second.counted ∙ first.counted;
   before = λ at early. second.before at early ∙ first.before at early;
@@ -38,22 +39,34 @@ slot_long bytes place whole = length-take-le 32 (drop (32 * place) bytes) (omega
 same_slot : (place at : ℕ) (old new : List ℕ) → DiffersInSlot place old new → (at < place) ⊎ (place < at) → slot_at new at ≡ slot_at old at
 same_slot place at old new differs apart =
     let as_long : length (slot_at new at) ≡ length (slot_at old at) =
-    omega (arith, length-take 32 (drop (32 * at) new), length-take 32 (drop (32 * at) old), length-drop (32 * at) new, length-drop (32 * at) old, differs.counted) in
+    omega (
+      arith,
+      length-take 32 (drop (32 * at) new),
+      length-take 32 (drop (32 * at) old),
+      length-drop (32 * at) new,
+      length-drop (32 * at) old,
+      differs.counted,
+    ) in
     ext_get_or 0 (slot_at new at) (slot_at old at) as_long (λ i inside.
     let early : i < 32 = omega (arith, inside, length-take 32 (drop (32 * at) new)) in
     index_slot new at i early
-    ∙ elim apart [ inl less ↦ differs.before (32 * at + i) (omega (arith, less)) | inr more ↦ differs.after (32 * at + i) (omega (arith, more)) ]
+    ∙ elim apart [
+      | inl less ↦ differs.before (32 * at + i) (omega (arith, less))
+      | inr more ↦ differs.after (32 * at + i) (omega (arith, more))
+    ]
     ∙ sym (index_slot old at i early))
 
 -- so are their gates
-same_gate : (place at : ℕ) (old new : List ℕ) → DiffersInSlot place old new → (at < place) ⊎ (place < at) → IsOpenSlot new at → IsOpenSlot old at
+same_gate : (place at : ℕ) (old new : List ℕ) → DiffersInSlot place old new → (at < place) ⊎ (place < at)
+    → IsOpenSlot new at → IsOpenSlot old at
 same_gate place at old new differs apart is_open = record {
   whole = omega (arith, is_open.whole, differs.counted);
   gate = subst (λ slot. slice_index slot 0 ≡ 43) (same_slot place at old new differs apart) is_open.gate;
 }
 
 -- The first free slot of a journal that has no fault.
-module _ (last : ℕ) (old new : List ℕ) (read : JournalRead) (right : IsRightJournal last old read) (free : 1 ≤ read.free) (differs : DiffersInSlot (length read.marks) old new) where
+module _ (last : ℕ) (old new : List ℕ) (read : JournalRead) (right : IsRightJournal last old read) (free : 1 ≤ read.free)
+    (differs : DiffersInSlot (length read.marks) old new) where
   abbrev count : ℕ
   count = length read.marks
 
@@ -62,7 +75,8 @@ module _ (last : ℕ) (old new : List ℕ) (read : JournalRead) (right : IsRight
 
   -- a slot after it is closed as before
   closed_after : (at : ℕ) → count < at → at < places → ¬ IsOpenSlot new at
-  closed_after at late inside is_open = right.slots.closed at (omega (arith, late)) inside (same_gate count at old new differs (inr late) is_open)
+  closed_after at late inside is_open =
+      right.slots.closed at (omega (arith, late)) inside (same_gate count at old new differs (inr late) is_open)
 
   -- a slot before it spells its mark as before
   spelled_before : (at : ℕ) (mark : Mark) → at < count → SpellsMark (slot_at old at) mark → SpellsMark (slot_at new at) mark
@@ -86,7 +100,8 @@ module _ (last : ℕ) (old new : List ℕ) (read : JournalRead) (right : IsRight
   }
 
   -- once it spells a mark, the journal has that mark more
-  pub right_open : (mark : Mark) → SpellsMark (slot_at new count) mark → IsLegalAfter read.marks mark → is_drawn last mark ≡ true → IsRightJournal last new (added read mark)
+  pub right_open : (mark : Mark) → SpellsMark (slot_at new count) mark → IsLegalAfter read.marks mark → is_drawn last mark ≡ true
+      → IsRightJournal last new (added read mark)
   right_open mark spelled legal drawn =
       let long : length (read.marks ++ mark ∷ []) ≡ suc count = simp length-append (omega arith) in
       record {

@@ -22,7 +22,8 @@ use Rattle.start_journal.proofs.SlotChanges.{DiffersInSlot, differs_then, index_
 
 -- a mark's number was drawn where a greater one was the last
 drawn_later : (last more : ℕ) (mark : Mark) → last ≤ more → is_drawn last mark ≡ true → is_drawn more mark ≡ true
-drawn_later last more mark later drawn = drawn_all more mark (λ number named. (let most : number ≤ last = drawn_names last number mark drawn named in omega arith))
+drawn_later last more mark later drawn =
+    drawn_all more mark (λ number named. (let most : number ≤ last = drawn_names last number mark drawn named in omega arith))
 
 all_later : (last more : ℕ) (marks : List Mark) → last ≤ more → are_drawn last marks ≡ true → are_drawn more marks ≡ true
 all_later last more [] later drawn = refl
@@ -55,7 +56,8 @@ pub record HasBytes (content : Option (List ℕ)) (journal : JournalRead) : Type
   pub is : content ≡ Some bytes
   pub long : length bytes ≡ 32 * (length journal.marks + journal.free)
 
-pub has_bytes : (content : Option (List ℕ)) (journal : JournalRead) → 1 ≤ journal.free → GivesReadJournal content journal → HasBytes content journal
+pub has_bytes : (content : Option (List ℕ)) (journal : JournalRead) → 1 ≤ journal.free → GivesReadJournal content journal
+    → HasBytes content journal
 has_bytes content journal free gives = by_content content refl ((journals_are_given some.0 content journal).0 (gives some.0 some.1)) where
   some : (last : ℕ) × (are_drawn last journal.marks ≡ true)
   some = some_last_of_all journal.marks
@@ -65,7 +67,9 @@ has_bytes content journal free gives = by_content content refl ((journals_are_gi
   by_content (Some bytes) is given = record { bytes = bytes; is = is; long = given.all }
 
 -- The slot, written in two parts.
-module _ (journal : JournalRead) (mark : Mark) (slot bytes : List ℕ) (free : 1 ≤ journal.free) (legal : IsLegalAfter journal.marks mark) (spelled : SpellsMark slot mark) (gives : GivesReadJournal (Some bytes) journal) (long : length bytes ≡ 32 * (length journal.marks + journal.free)) where
+module _ (journal : JournalRead) (mark : Mark) (slot bytes : List ℕ) (free : 1 ≤ journal.free)
+    (legal : IsLegalAfter journal.marks mark) (spelled : SpellsMark slot mark) (gives : GivesReadJournal (Some bytes) journal)
+    (long : length bytes ≡ 32 * (length journal.marks + journal.free)) where
   abbrev count : ℕ
   count = length journal.marks
 
@@ -80,7 +84,11 @@ module _ (journal : JournalRead) (mark : Mark) (slot bytes : List ℕ) (free : 1
   closed_there : (last : ℕ) → are_drawn last journal.marks ≡ true → ¬ (slice_index bytes (32 * count) ≡ 43)
   closed_there last drawn gate =
       (right last drawn).slots.closed count (omega arith) (omega arith)
-      (record { whole = omega arith; gate = index_slot bytes count 0 (omega arith) ∙ ap (slice_index bytes) (let there : 32 * count + 0 ≡ 32 * count = omega arith in there) ∙ gate })
+      (record {
+        whole = omega arith;
+        gate = index_slot bytes count 0 (omega arith)
+            ∙ ap (slice_index bytes) (let there : 32 * count + 0 ≡ 32 * count = omega arith in there) ∙ gate;
+      })
 
   -- with any bytes after its gate it is closed still
   module _ (part : List ℕ) (part_long : length part ≡ 31) where
@@ -149,11 +157,15 @@ module _ (journal : JournalRead) (mark : Mark) (slot bytes : List ℕ) (free : 1
 
     slot_there : slot_at all count ≡ slot
     slot_there =
-        let as_long : length (slot_at all count) ≡ 32 = slot_long all count (omega (arith, (whole_differs rest rest_long gate gate_long).counted)) in
-        ext_get_or 0 (slot_at all count) slot (as_long ∙ sym spelled.fields.counted) (λ at inside. by_place at (omega (arith, inside, as_long)) (eqb_tells at 0)) where
-          by_place : (at : ℕ) → at < 32 → ((at == 0) ≡ true) × (at ≡ 0) ⊎ ((at == 0) ≡ false) × (at ≢ 0) → slice_index (slot_at all count) at ≡ slice_index slot at
+        let as_long : length (slot_at all count) ≡ 32 =
+        slot_long all count (omega (arith, (whole_differs rest rest_long gate gate_long).counted)) in
+        ext_get_or 0 (slot_at all count) slot (as_long ∙ sym spelled.fields.counted)
+        (λ at inside. by_place at (omega (arith, inside, as_long)) (eqb_tells at 0)) where
+          by_place : (at : ℕ) → at < 32 → ((at == 0) ≡ true) × (at ≡ 0) ⊎ ((at == 0) ≡ false) × (at ≢ 0)
+              → slice_index (slot_at all count) at ≡ slice_index slot at
           by_place at early (inl first) =
-              ap (slice_index (slot_at all count)) first.1 ∙ gate_there rest rest_long gate gate_long ∙ opened ∙ sym spelled.fields.gate ∙ ap (slice_index slot) (sym first.1)
+              ap (slice_index (slot_at all count)) first.1 ∙ gate_there rest rest_long gate gate_long ∙ opened ∙ sym spelled.fields.gate
+              ∙ ap (slice_index slot) (sym first.1)
           by_place at early (inr after) =
               let more : 1 ≤ at = (let some : ¬ (at ≡ 0) = after.1 in omega arith) in
               let there : 1 + (at - 1) ≡ at = omega arith in
@@ -165,7 +177,8 @@ module _ (journal : JournalRead) (mark : Mark) (slot bytes : List ℕ) (free : 1
     pub open_gives : GivesReadJournal (Some all) (added journal mark)
     open_gives = λ last drawn.
         let both : (are_drawn last journal.marks ≡ true) × (are_drawn last (mark ∷ []) ≡ true) =
-        and_parts (are_drawn last journal.marks) (are_drawn last (mark ∷ [])) (sym (list_all-append (is_drawn last) journal.marks (mark ∷ [])) ∙ drawn) in
+        and_parts (are_drawn last journal.marks) (are_drawn last (mark ∷ []))
+        (sym (list_all-append (is_drawn last) journal.marks (mark ∷ [])) ∙ drawn) in
         let one : (is_drawn last mark ≡ true) × (true ≡ true) = and_parts (is_drawn last mark) true both.1 in
         (journals_are_given last (Some all) (added journal mark)).1
         (right_open last bytes all journal (right last both.0) free (whole_differs rest rest_long gate gate_long) mark

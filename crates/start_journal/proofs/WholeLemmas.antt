@@ -61,7 +61,9 @@ parts_of slot counted each = record {
 }
 
 -- the slot with fields whose numbers are spelled
-pub fields_spelled : (slot : List ℕ) (fields : Fields) → HasParts slot → slice_index slot 1 ≡ fields.kind → SpellsNumber (slice_range slot 2 10) fields.number → slice_index slot 10 ≡ fields.queue → slice_index slot 11 ≡ fields.ending → SpellsNumber (slice_range slot 12 14) fields.status → SpellsNumber (slice_range slot 14 30) fields.second → SpellsFields slot fields
+pub fields_spelled : (slot : List ℕ) (fields : Fields) → HasParts slot → slice_index slot 1 ≡ fields.kind
+    → SpellsNumber (slice_range slot 2 10) fields.number → slice_index slot 10 ≡ fields.queue → slice_index slot 11 ≡ fields.ending
+    → SpellsNumber (slice_range slot 12 14) fields.status → SpellsNumber (slice_range slot 14 30) fields.second → SpellsFields slot fields
 fields_spelled slot fields parts kind number queue ending status second = record {
   counted = parts.counted;
   gate = eqb-true (slice_index slot 0) 43 parts.gate;
@@ -76,7 +78,8 @@ fields_spelled slot fields parts kind number queue ending status second = record
 }
 
 -- the two bytes of an ending's number
-pub two_pass : (test : ℕ → Bool) (slot : List ℕ) → length slot ≡ 32 → test (slice_index slot 12) ≡ true → test (slice_index slot 13) ≡ true → list_all test (slice_range slot 12 14) ≡ true
+pub two_pass : (test : ℕ → Bool) (slot : List ℕ) → length slot ≡ 32 → test (slice_index slot 12) ≡ true → test (slice_index slot 13) ≡ true
+    → list_all test (slice_range slot 12 14) ≡ true
 two_pass test slot counted first last =
     let long : length (slice_range slot 12 14) ≡ 2 = part_long slot 12 14 (omega arith) in
     all_by_place test (slice_range slot 12 14) (λ place inside. elim (eq-or-lt_of_le (let at_most : place ≤ 1 = omega arith in at_most)) [
@@ -87,7 +90,9 @@ two_pass test slot counted first last =
     ])
 
 -- the number of a job
-pub number_of_job : (slot : List ℕ) → length slot ≡ 32 → (are_digits (slice_range slot 2 10) && (nat_lt (length (slice_range slot 2 10)) 8 || nat_le 1 (value_of_digits (slice_range slot 2 10)))) ≡ true → SpellsNumber (slice_range slot 2 10) (value_of_digits (slice_range slot 2 10)) × (1 ≤ value_of_digits (slice_range slot 2 10))
+pub number_of_job : (slot : List ℕ) → length slot ≡ 32 → (are_digits (slice_range slot 2 10)
+    && (nat_lt (length (slice_range slot 2 10)) 8 || nat_le 1 (value_of_digits (slice_range slot 2 10)))) ≡ true
+    → SpellsNumber (slice_range slot 2 10) (value_of_digits (slice_range slot 2 10)) × (1 ≤ value_of_digits (slice_range slot 2 10))
 number_of_job slot counted is =
     let digits : List ℕ = slice_range slot 2 10 in
     let tests : (are_digits digits ≡ true) × ((nat_lt (length digits) 8 || nat_le 1 (value_of_digits digits)) ≡ true) = and_parts _ _ is in
@@ -97,31 +102,44 @@ number_of_job slot counted is =
     (digits_spell digits tests.0, grind (arith, nat_tests))
 
 -- a second of the clock's range
-pub second_of_slot : (slot : List ℕ) → length slot ≡ 32 → (are_digits (slice_range slot 14 30) && nat_le (value_of_digits (slice_range slot 14 30)) (unsigned_abs LAST_SECOND / 16 ^ (16 - length (slice_range slot 14 30)))) ≡ true → SpellsNumber (slice_range slot 14 30) (value_of_digits (slice_range slot 14 30)) × IsClockSecond (pos (value_of_digits (slice_range slot 14 30)))
+pub second_of_slot : (slot : List ℕ) → length slot ≡ 32 → (are_digits (slice_range slot 14 30)
+    && nat_le (value_of_digits (slice_range slot 14 30)) (unsigned_abs LAST_SECOND / 16 ^ (16 - length (slice_range slot 14 30)))) ≡ true
+    → SpellsNumber (slice_range slot 14 30) (value_of_digits (slice_range slot 14 30))
+    × IsClockSecond (pos (value_of_digits (slice_range slot 14 30)))
 second_of_slot slot counted is =
     let digits : List ℕ = slice_range slot 14 30 in
-    let tests : (are_digits digits ≡ true) × (nat_le (value_of_digits digits) (unsigned_abs LAST_SECOND / 16 ^ (16 - length digits)) ≡ true) = and_parts _ _ is in
+    let tests : (are_digits digits ≡ true)
+    × (nat_le (value_of_digits digits) (unsigned_abs LAST_SECOND / 16 ^ (16 - length digits)) ≡ true) = and_parts _ _ is in
     let long : length digits ≡ 16 = part_long slot 14 30 (omega arith) in
-    let at_most : nat_le (value_of_digits digits) (unsigned_abs LAST_SECOND) ≡ true = sym (ap (λ n. nat_le (value_of_digits digits) (unsigned_abs LAST_SECOND / 16 ^ (16 - n))) long) ∙ tests.1 in
+    let at_most : nat_le (value_of_digits digits) (unsigned_abs LAST_SECOND) ≡ true =
+    sym (ap (λ n. nat_le (value_of_digits digits) (unsigned_abs LAST_SECOND / 16 ^ (16 - n))) long) ∙ tests.1 in
     (digits_spell digits tests.0, second_is (pos (value_of_digits digits)) at_most)
 
 -- a slot of a kind that says no more than a number
-pub plain_slot : (slot : List ℕ) (kind : ℕ) → HasParts slot → slice_index slot 1 ≡ kind → (kind == 66) ≡ false → (kind == 83) ≡ false → (kind == 69) ≡ false → SpellsFields slot (plain_fields kind (value_of_digits (slice_range slot 2 10))) × (1 ≤ value_of_digits (slice_range slot 2 10))
+pub plain_slot : (slot : List ℕ) (kind : ℕ) → HasParts slot → slice_index slot 1 ≡ kind → (kind == 66) ≡ false
+    → (kind == 83) ≡ false → (kind == 69) ≡ false → SpellsFields slot (plain_fields kind (value_of_digits (slice_range slot 2 10)))
+    × (1 ≤ value_of_digits (slice_range slot 2 10))
 plain_slot slot kind parts is not_batch not_start not_end =
     let digits : List ℕ = slice_range slot 2 10 in
     let seconds : List ℕ = slice_range slot 14 30 in
     let number = number_of_job slot parts.counted
-    (sym (ap (λ b. if b then are_zeros digits else (are_digits digits && (nat_lt (length digits) 8 || nat_le 1 (value_of_digits digits)))) (ap (λ k. k == 66) is ∙ not_batch)) ∙ parts.number) in
+    (sym (ap (λ b. if b then are_zeros digits else (are_digits digits && (nat_lt (length digits) 8 || nat_le 1 (value_of_digits digits))))
+    (ap (λ k. k == 66) is ∙ not_batch)) ∙ parts.number) in
     let queue : slice_index slot 10 ≡ 45 = eqb-true (slice_index slot 10) 45
-    (sym (ap (λ b. if b then is_ascii_alphabetic (slice_index slot 10) else slice_index slot 10 == 45) (ap (λ k. k == 83) is ∙ not_start)) ∙ parts.queue) in
+    (sym (ap (λ b. if b then is_ascii_alphabetic (slice_index slot 10) else slice_index slot 10 == 45) (ap (λ k. k == 83) is ∙ not_start))
+    ∙ parts.queue) in
     let ending : slice_index slot 11 ≡ 45 = eqb-true (slice_index slot 11) 45
-    (sym (ap (λ b. if b then (slice_index slot 11 == 120 || slice_index slot 11 == 115 || slice_index slot 11 == 110) else slice_index slot 11 == 45) (ap (λ k. k == 69) is ∙ not_end)) ∙ parts.ending) in
+    (sym (ap (λ b. if b then (slice_index slot 11 == 120 || slice_index slot 11 == 115 || slice_index slot 11 == 110) else slice_index slot
+    11 == 45) (ap (λ k. k == 69) is ∙ not_end)) ∙ parts.ending) in
     let first : (slice_index slot 12 == 48) ≡ true = sym (ap (λ e. is_status_of e (slice_index slot 12)) ending) ∙ parts.first in
     let last : (slice_index slot 13 == 48) ≡ true = sym (ap (λ e. is_status_of e (slice_index slot 13)) ending) ∙ parts.last in
-    let no_second : (slice_index slot 1 == 83 || slice_index slot 1 == 66) ≡ false = ap (λ b. b || slice_index slot 1 == 66) (ap (λ k. k == 83) is ∙ not_start) ∙ ap (λ k. k == 66) is ∙ not_batch in
-    let zeros : are_zeros seconds ≡ true = sym (ap (λ b. if b then (are_digits seconds && nat_le (value_of_digits seconds) (unsigned_abs LAST_SECOND / 16 ^ (16 - length seconds))) else are_zeros seconds) no_second) ∙ parts.second in (
+    let no_second : (slice_index slot 1 == 83 || slice_index slot 1 == 66) ≡ false =
+    ap (λ b. b || slice_index slot 1 == 66) (ap (λ k. k == 83) is ∙ not_start) ∙ ap (λ k. k == 66) is ∙ not_batch in
+    let zeros : are_zeros seconds ≡ true = sym (ap (λ b. if b then (are_digits seconds && nat_le (value_of_digits seconds)
+    (unsigned_abs LAST_SECOND / 16 ^ (16 - length seconds))) else are_zeros seconds) no_second) ∙ parts.second in (
       fields_spelled slot (plain_fields kind (value_of_digits digits)) parts is number.0 queue ending
-          (spelled_zero (slice_range slot 12 14) (two_pass (λ byte. byte == 48) slot parts.counted first last)) (spelled_zero seconds zeros),
+          (spelled_zero (slice_range slot 12 14) (two_pass (λ byte. byte == 48) slot parts.counted first last))
+          (spelled_zero seconds zeros),
       number.1,
     )
 
@@ -129,33 +147,42 @@ plain_slot slot kind parts is not_batch not_start not_end =
 pub start_slot : (slot : List ℕ) → HasParts slot → slice_index slot 1 ≡ 83 → SpellsSome slot
 start_slot slot parts is =
     let number = number_of_job slot parts.counted (subst (λ kind. is_number_prefix kind (slice_range slot 2 10) ≡ true) is parts.number) in
-    let letter : is_ascii_alphabetic (slice_index slot 10) ≡ true = subst (λ kind. is_queue_of kind (slice_index slot 10) ≡ true) is parts.queue in
-    let ending : slice_index slot 11 ≡ 45 = eqb-true (slice_index slot 11) 45 (subst (λ kind. is_ending_of kind (slice_index slot 11) ≡ true) is parts.ending) in
+    let letter : is_ascii_alphabetic (slice_index slot 10) ≡ true =
+    subst (λ kind. is_queue_of kind (slice_index slot 10) ≡ true) is parts.queue in
+    let ending : slice_index slot 11 ≡ 45 =
+    eqb-true (slice_index slot 11) 45 (subst (λ kind. is_ending_of kind (slice_index slot 11) ≡ true) is parts.ending) in
     let first : (slice_index slot 12 == 48) ≡ true = subst (λ e. is_status_of e (slice_index slot 12) ≡ true) ending parts.first in
     let last : (slice_index slot 13 == 48) ≡ true = subst (λ e. is_status_of e (slice_index slot 13) ≡ true) ending parts.last in
-    let second = second_of_slot slot parts.counted (subst (λ kind. is_second_prefix kind (slice_range slot 14 30) ≡ true) is parts.second) in
+    let second =
+    second_of_slot slot parts.counted (subst (λ kind. is_second_prefix kind (slice_range slot 14 30) ≡ true) is parts.second) in
     record {
       mark = Started (value_of_digits (slice_range slot 2 10)) (slice_index slot 10) (pos (value_of_digits (slice_range slot 14 30)));
       spelled = record {
         writable = record { drawn = number.1; letter = letter; second_of = second.1 };
-        fields = fields_spelled slot _ parts is number.0 refl ending (spelled_zero (slice_range slot 12 14) (two_pass (λ byte. byte == 48) slot parts.counted first last)) second.0;
+        fields = fields_spelled slot _ parts is number.0 refl ending
+            (spelled_zero (slice_range slot 12 14) (two_pass (λ byte. byte == 48) slot parts.counted first last)) second.0;
       };
     }
 
 -- the slot of a batch start
 pub batch_slot : (slot : List ℕ) → HasParts slot → slice_index slot 1 ≡ 66 → SpellsSome slot
 batch_slot slot parts is =
-    let zeros : are_zeros (slice_range slot 2 10) ≡ true = subst (λ kind. is_number_prefix kind (slice_range slot 2 10) ≡ true) is parts.number in
-    let queue : slice_index slot 10 ≡ 45 = eqb-true (slice_index slot 10) 45 (subst (λ kind. is_queue_of kind (slice_index slot 10) ≡ true) is parts.queue) in
-    let ending : slice_index slot 11 ≡ 45 = eqb-true (slice_index slot 11) 45 (subst (λ kind. is_ending_of kind (slice_index slot 11) ≡ true) is parts.ending) in
+    let zeros : are_zeros (slice_range slot 2 10) ≡ true =
+    subst (λ kind. is_number_prefix kind (slice_range slot 2 10) ≡ true) is parts.number in
+    let queue : slice_index slot 10 ≡ 45 =
+    eqb-true (slice_index slot 10) 45 (subst (λ kind. is_queue_of kind (slice_index slot 10) ≡ true) is parts.queue) in
+    let ending : slice_index slot 11 ≡ 45 =
+    eqb-true (slice_index slot 11) 45 (subst (λ kind. is_ending_of kind (slice_index slot 11) ≡ true) is parts.ending) in
     let first : (slice_index slot 12 == 48) ≡ true = subst (λ e. is_status_of e (slice_index slot 12) ≡ true) ending parts.first in
     let last : (slice_index slot 13 == 48) ≡ true = subst (λ e. is_status_of e (slice_index slot 13) ≡ true) ending parts.last in
-    let second = second_of_slot slot parts.counted (subst (λ kind. is_second_prefix kind (slice_range slot 14 30) ≡ true) is parts.second) in
+    let second =
+    second_of_slot slot parts.counted (subst (λ kind. is_second_prefix kind (slice_range slot 14 30) ≡ true) is parts.second) in
     record {
       mark = Batch (pos (value_of_digits (slice_range slot 14 30)));
       spelled = record {
         writable = second.1;
-        fields = fields_spelled slot _ parts is (spelled_zero (slice_range slot 2 10) zeros) queue ending (spelled_zero (slice_range slot 12 14) (two_pass (λ byte. byte == 48) slot parts.counted first last)) second.0;
+        fields = fields_spelled slot _ parts is (spelled_zero (slice_range slot 2 10) zeros) queue ending
+            (spelled_zero (slice_range slot 12 14) (two_pass (λ byte. byte == 48) slot parts.counted first last)) second.0;
       };
     }
 
@@ -163,27 +190,37 @@ batch_slot slot parts is =
 pub end_slot : (slot : List ℕ) → HasParts slot → slice_index slot 1 ≡ 69 → SpellsSome slot
 end_slot slot parts is =
     let number = number_of_job slot parts.counted (subst (λ kind. is_number_prefix kind (slice_range slot 2 10) ≡ true) is parts.number) in
-    let queue : slice_index slot 10 ≡ 45 = eqb-true (slice_index slot 10) 45 (subst (λ kind. is_queue_of kind (slice_index slot 10) ≡ true) is parts.queue) in
-    let zeros : are_zeros (slice_range slot 14 30) ≡ true = subst (λ kind. is_second_prefix kind (slice_range slot 14 30) ≡ true) is parts.second in
+    let queue : slice_index slot 10 ≡ 45 =
+    eqb-true (slice_index slot 10) 45 (subst (λ kind. is_queue_of kind (slice_index slot 10) ≡ true) is parts.queue) in
+    let zeros : are_zeros (slice_range slot 14 30) ≡ true =
+    subst (λ kind. is_second_prefix kind (slice_range slot 14 30) ≡ true) is parts.second in
     let second : SpellsNumber (slice_range slot 14 30) 0 = spelled_zero (slice_range slot 14 30) zeros in
-    let digits : (e : ℕ) → slice_index slot 11 ≡ e → ((byte : ℕ) → is_status_of e byte ≡ is_digit byte) → SpellsNumber (slice_range slot 12 14) (value_of_digits (slice_range slot 12 14)) =
+    let digits : (e : ℕ) → slice_index slot 11 ≡ e → ((byte : ℕ) → is_status_of e byte ≡ is_digit byte)
+    → SpellsNumber (slice_range slot 12 14) (value_of_digits (slice_range slot 12 14)) =
     λ e at same. digits_spell (slice_range slot 12 14) (two_pass is_digit slot parts.counted
     (sym (same (slice_index slot 12)) ∙ subst (λ x. is_status_of x (slice_index slot 12) ≡ true) at parts.first)
     (sym (same (slice_index slot 13)) ∙ subst (λ x. is_status_of x (slice_index slot 13) ≡ true) at parts.last)) in
-    let endings : (slice_index slot 11 == 120 || slice_index slot 11 == 115 || slice_index slot 11 == 110) ≡ true = subst (λ kind. is_ending_of kind (slice_index slot 11) ≡ true) is parts.ending in
+    let endings : (slice_index slot 11 == 120 || slice_index slot 11 == 115 || slice_index slot 11 == 110) ≡ true =
+    subst (λ kind. is_ending_of kind (slice_index slot 11) ≡ true) is parts.ending in
     elim (or_cases (slice_index slot 11 == 120 || slice_index slot 11 == 115) (slice_index slot 11 == 110) endings) [
       | inl exit_or_signal ↦ elim (or_cases (slice_index slot 11 == 120) (slice_index slot 11 == 115) exit_or_signal) [
         | inl exit ↦
             let at : slice_index slot 11 ≡ 120 = eqb-true (slice_index slot 11) 120 exit in
             record {
               mark = Ended (value_of_digits (slice_range slot 2 10)) (Exit (value_of_digits (slice_range slot 12 14)));
-              spelled = record { writable = number.1; fields = fields_spelled slot _ parts is number.0 queue at (digits 120 at (λ byte. refl)) second };
+              spelled = record {
+                writable = number.1;
+                fields = fields_spelled slot _ parts is number.0 queue at (digits 120 at (λ byte. refl)) second;
+              };
             }
         | inr signal ↦
             let at : slice_index slot 11 ≡ 115 = eqb-true (slice_index slot 11) 115 signal in
             record {
               mark = Ended (value_of_digits (slice_range slot 2 10)) (Signal (value_of_digits (slice_range slot 12 14)));
-              spelled = record { writable = number.1; fields = fields_spelled slot _ parts is number.0 queue at (digits 115 at (λ byte. refl)) second };
+              spelled = record {
+                writable = number.1;
+                fields = fields_spelled slot _ parts is number.0 queue at (digits 115 at (λ byte. refl)) second;
+              };
             }
       ]
       | inr none ↦
@@ -192,19 +229,29 @@ end_slot slot parts is =
           let last : (slice_index slot 13 == 48) ≡ true = subst (λ e. is_status_of e (slice_index slot 13) ≡ true) at parts.last in
           record {
             mark = Ended (value_of_digits (slice_range slot 2 10)) NotStarted;
-            spelled = record { writable = number.1; fields = fields_spelled slot _ parts is number.0 queue at (spelled_zero (slice_range slot 12 14) (two_pass (λ byte. byte == 48) slot parts.counted first last)) second };
+            spelled = record {
+              writable = number.1;
+              fields = fields_spelled slot _ parts is number.0 queue at
+                  (spelled_zero (slice_range slot 12 14) (two_pass (λ byte. byte == 48) slot parts.counted first last)) second;
+            };
           }
     ]
 
 -- the slots of the other kinds
 pub removed_slot : (slot : List ℕ) → HasParts slot → slice_index slot 1 ≡ 82 → SpellsSome slot
-removed_slot slot parts is = let plain = plain_slot slot 82 parts is refl refl refl in record { mark = Removed (value_of_digits (slice_range slot 2 10)); spelled = record { writable = plain.1; fields = plain.0 } }
+removed_slot slot parts is =
+    let plain = plain_slot slot 82 parts is refl refl refl in
+    record { mark = Removed (value_of_digits (slice_range slot 2 10)); spelled = record { writable = plain.1; fields = plain.0 } }
 
 pub interrupted_slot : (slot : List ℕ) → HasParts slot → slice_index slot 1 ≡ 73 → SpellsSome slot
-interrupted_slot slot parts is = let plain = plain_slot slot 73 parts is refl refl refl in record { mark = Interrupted (value_of_digits (slice_range slot 2 10)); spelled = record { writable = plain.1; fields = plain.0 } }
+interrupted_slot slot parts is =
+    let plain = plain_slot slot 73 parts is refl refl refl in
+    record { mark = Interrupted (value_of_digits (slice_range slot 2 10)); spelled = record { writable = plain.1; fields = plain.0 } }
 
 pub forgotten_slot : (slot : List ℕ) → HasParts slot → slice_index slot 1 ≡ 70 → SpellsSome slot
-forgotten_slot slot parts is = let plain = plain_slot slot 70 parts is refl refl refl in record { mark = Forgotten (value_of_digits (slice_range slot 2 10)); spelled = record { writable = plain.1; fields = plain.0 } }
+forgotten_slot slot parts is =
+    let plain = plain_slot slot 70 parts is refl refl refl in
+    record { mark = Forgotten (value_of_digits (slice_range slot 2 10)); spelled = record { writable = plain.1; fields = plain.0 } }
 
 -- a slot of which each byte is allowed spells a mark
 pub all_spelled : (slot : List ℕ) → HasParts slot → SpellsSome slot

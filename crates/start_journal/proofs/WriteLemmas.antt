@@ -10,12 +10,15 @@ use Rattle.start_journal.specs.Slots.{SpellsFields}
 use Rattle.text_reader.proofs.ValueLemmas.{number_spelled}
 
 -- a part that is written over leaves the length
-put_long : (from count : ℕ) (list part : List ℕ) → from + count ≤ length list → length part ≡ count → length (put_mid from count list part) ≡ length list
+put_long : (from count : ℕ) (list part : List ℕ) → from + count ≤ length list → length part ≡ count
+    → length (put_mid from count list part) ≡ length list
 put_long from count list part inside counted = simp (length-append, length-drop, length-take) (omega arith)
 
 -- lists with the same prefix have the same bytes there
-pub prefix_index : (count place : ℕ) (one other : List ℕ) → place < count → take count one ≡ take count other → slice_index one place ≡ slice_index other place
-prefix_index count place one other before same = sym (get_or-take count one place 0 before) ∙ ap (λ list. slice_index list place) same ∙ get_or-take count other place 0 before
+pub prefix_index : (count place : ℕ) (one other : List ℕ) → place < count → take count one ≡ take count other
+    → slice_index one place ≡ slice_index other place
+prefix_index count place one other before same = sym (get_or-take count one place 0 before) ∙ ap (λ list. slice_index list place) same
+    ∙ get_or-take count other place 0 before
 
 pub prefix_range : (from to : ℕ) (one other : List ℕ) → take to one ≡ take to other → slice_range one from to ≡ slice_range other from to
 prefix_range from to one other same = between_is one from to ∙ ap (drop from) same ∙ sym (between_is other from to)
@@ -48,16 +51,22 @@ kinded_long fields start counted = length-set (set start 0 43) 1 fields.kind ∙
 pub ended_long : (fields : Fields) (start number : List ℕ) → length start ≡ 32 → length number ≡ 8 → length (ended fields start number) ≡ 32
 ended_long fields start number counted counted_number =
     let three : List ℕ = put_mid 2 8 (kinded fields start) number in
-    length-set (set three 10 fields.queue) 11 fields.ending ∙ length-set three 10 fields.queue ∙ put_long 2 8 (kinded fields start) number (omega (arith, kinded_long fields start counted)) counted_number ∙ kinded_long fields start counted
+    length-set (set three 10 fields.queue) 11 fields.ending ∙ length-set three 10 fields.queue ∙ put_long 2 8 (kinded fields start) number
+    (omega (arith, kinded_long fields start counted)) counted_number ∙ kinded_long fields start counted
 
 -- and the number of its ending
-pub statused_long : (fields : Fields) (start number status : List ℕ) → length start ≡ 32 → length number ≡ 8 → length status ≡ 2 → length (statused fields start number status) ≡ 32
+pub statused_long : (fields : Fields) (start number status : List ℕ) → length start ≡ 32 → length number ≡ 8 → length status ≡ 2
+    → length (statused fields start number status) ≡ 32
 statused_long fields start number status counted counted_number counted_status =
-    put_long 12 2 (ended fields start number) status (omega (arith, ended_long fields start number counted counted_number)) counted_status ∙ ended_long fields start number counted counted_number
+    put_long 12 2 (ended fields start number) status (omega (arith, ended_long fields start number counted counted_number)) counted_status
+    ∙ ended_long fields start number counted counted_number
 
 -- all fields, each after those that were written before it
-pub written : (fields : Fields) (start number status second : List ℕ) → length start ≡ 32 → length number ≡ 8 → length status ≡ 2 → length second ≡ 16 → SpellsNumber number fields.number → SpellsNumber status fields.status → SpellsNumber second fields.second → SpellsFields (set (set (put_mid 14 16 (statused fields start number status) second) 30 46) 31 10) fields
-written fields start number status second counted counted_number counted_status counted_second number_spelled status_spelled second_spelled =
+pub written : (fields : Fields) (start number status second : List ℕ) → length start ≡ 32 → length number ≡ 8 → length status ≡ 2
+    → length second ≡ 16 → SpellsNumber number fields.number → SpellsNumber status fields.status → SpellsNumber second fields.second
+    → SpellsFields (set (set (put_mid 14 16 (statused fields start number status) second) 30 46) 31 10) fields
+written fields start number status second counted counted_number counted_status counted_second number_spelled
+    status_spelled second_spelled =
     let one : List ℕ = set start 0 43 in
     let of_one : length one ≡ 32 = length-set start 0 43 ∙ counted in
     let two : List ℕ = set one 1 fields.kind in
@@ -76,23 +85,34 @@ written fields start number status second counted counted_number counted_status 
     let of_eight : length eight ≡ 32 = length-set seven 30 46 ∙ of_seven in
     let nine : List ℕ = set eight 31 10 in
     let to_eight : (count : ℕ) → count ≤ 31 → take count nine ≡ take count eight = λ count few. take-set-le count eight 31 10 few in
-    let to_seven : (count : ℕ) → count ≤ 30 → take count nine ≡ take count seven = λ count few. to_eight count (omega arith) ∙ take-set-le count seven 30 46 few in
-    let to_six : (count : ℕ) → count ≤ 14 → take count nine ≡ take count six = λ count few. to_seven count (omega arith) ∙ take-put_mid_below 14 16 six second count few (omega arith) in
-    let to_five : (count : ℕ) → count ≤ 12 → take count nine ≡ take count five = λ count few. to_six count (omega arith) ∙ take-put_mid_below 12 2 five status count few (omega arith) in
-    let to_four : (count : ℕ) → count ≤ 11 → take count nine ≡ take count four = λ count few. to_five count (omega arith) ∙ take-set-le count four 11 fields.ending few in
-    let to_three : (count : ℕ) → count ≤ 10 → take count nine ≡ take count three = λ count few. to_four count (omega arith) ∙ take-set-le count three 10 fields.queue few in
-    let to_two : (count : ℕ) → count ≤ 2 → take count nine ≡ take count two = λ count few. to_three count (omega arith) ∙ take-put_mid_below 2 8 two number count few (omega arith) in
-    let to_one : (count : ℕ) → count ≤ 1 → take count nine ≡ take count one = λ count few. to_two count (omega arith) ∙ take-set-le count one 1 fields.kind few in
-    let digits_number : slice_range nine 2 10 ≡ number = prefix_range 2 10 nine three (to_three 10 (omega arith)) ∙ between-put_mid 2 8 two number 10 (omega arith) counted_number in
-    let digits_status : slice_range nine 12 14 ≡ status = prefix_range 12 14 nine six (to_six 14 (omega arith)) ∙ between-put_mid 12 2 five status 14 (omega arith) counted_status in
-    let digits_second : slice_range nine 14 30 ≡ second = prefix_range 14 30 nine seven (to_seven 30 (omega arith)) ∙ between-put_mid 14 16 six second 30 (omega arith) counted_second in
+    let to_seven : (count : ℕ) → count ≤ 30 → take count nine ≡ take count seven = λ count few. to_eight count (omega arith)
+    ∙ take-set-le count seven 30 46 few in
+    let to_six : (count : ℕ) → count ≤ 14 → take count nine ≡ take count six = λ count few. to_seven count (omega arith)
+    ∙ take-put_mid_below 14 16 six second count few (omega arith) in
+    let to_five : (count : ℕ) → count ≤ 12 → take count nine ≡ take count five = λ count few. to_six count (omega arith)
+    ∙ take-put_mid_below 12 2 five status count few (omega arith) in
+    let to_four : (count : ℕ) → count ≤ 11 → take count nine ≡ take count four = λ count few. to_five count (omega arith)
+    ∙ take-set-le count four 11 fields.ending few in
+    let to_three : (count : ℕ) → count ≤ 10 → take count nine ≡ take count three = λ count few. to_four count (omega arith)
+    ∙ take-set-le count three 10 fields.queue few in
+    let to_two : (count : ℕ) → count ≤ 2 → take count nine ≡ take count two = λ count few. to_three count (omega arith)
+    ∙ take-put_mid_below 2 8 two number count few (omega arith) in
+    let to_one : (count : ℕ) → count ≤ 1 → take count nine ≡ take count one = λ count few. to_two count (omega arith)
+    ∙ take-set-le count one 1 fields.kind few in
+    let digits_number : slice_range nine 2 10 ≡ number = prefix_range 2 10 nine three (to_three 10 (omega arith))
+    ∙ between-put_mid 2 8 two number 10 (omega arith) counted_number in
+    let digits_status : slice_range nine 12 14 ≡ status = prefix_range 12 14 nine six (to_six 14 (omega arith))
+    ∙ between-put_mid 12 2 five status 14 (omega arith) counted_status in
+    let digits_second : slice_range nine 14 30 ≡ second = prefix_range 14 30 nine seven (to_seven 30 (omega arith))
+    ∙ between-put_mid 14 16 six second 30 (omega arith) counted_second in
     record {
       counted = length-set eight 31 10 ∙ of_eight;
       gate = prefix_index 1 0 nine one (omega arith) (to_one 1 (omega arith)) ∙ get_or-set_same start 0 43 0 (omega arith);
       kind = prefix_index 2 1 nine two (omega arith) (to_two 2 (omega arith)) ∙ get_or-set_same one 1 fields.kind 0 (omega arith);
       number = subst (λ digits. SpellsNumber digits fields.number) (sym digits_number) number_spelled;
       queue = prefix_index 11 10 nine four (omega arith) (to_four 11 (omega arith)) ∙ get_or-set_same three 10 fields.queue 0 (omega arith);
-      ending = prefix_index 12 11 nine five (omega arith) (to_five 12 (omega arith)) ∙ get_or-set_same four 11 fields.ending 0 (omega arith);
+      ending = prefix_index 12 11 nine five (omega arith) (to_five 12 (omega arith))
+          ∙ get_or-set_same four 11 fields.ending 0 (omega arith);
       status = subst (λ digits. SpellsNumber digits fields.status) (sym digits_status) status_spelled;
       second = subst (λ digits. SpellsNumber digits fields.second) (sym digits_second) second_spelled;
       point = prefix_index 31 30 nine eight (omega arith) (to_eight 31 (omega arith)) ∙ get_or-set_same seven 30 46 0 (omega arith);

@@ -19,7 +19,8 @@ use Rattle.queue_rules.specs.Order.{Differ}
 use Rattle.spool_shows.proofs.Membership.{Has, any_passes, contained, filtered_has, has_contained, has_either, has_left, has_made, has_right, made_has}
 
 -- an item of a list is the same by any default
-same_default : {X : Type 0} (items : List X) (count : ℕ) (one other : X) → count < length items → slice_index_or items count one ≡ slice_index_or items count other
+same_default : {X : Type 0} (items : List X) (count : ℕ) (one other : X) → count < length items
+    → slice_index_or items count one ≡ slice_index_or items count other
 same_default [] count one other below = absurd (omega arith)
 same_default (first ∷ items) zero one other below = refl
 same_default (first ∷ items) (suc count) one other below = same_default items count one other (omega arith)
@@ -29,7 +30,8 @@ pub all_each : {X : Type 0} (P : X → Type 0) (xs : List X) → All P xs → (x
 all_each P xs all x has = let is : Contains xs x = contained xs x has in subst P is.2 (all is.0 x is.1)
 
 pub each_all : {X : Type 0} (P : X → Type 0) (xs : List X) → ((x : X) → Has xs x → P x) → All P xs
-each_all P xs each k d inside = each (slice_index_or xs k d) (has_contained xs (slice_index_or xs k d) (k, inside, same_default xs k (slice_index_or xs k d) d inside))
+each_all P xs each k d inside =
+    each (slice_index_or xs k d) (has_contained xs (slice_index_or xs k d) (k, inside, same_default xs k (slice_index_or xs k d) d inside))
 
 -- each element and each later one
 pub pairs_tail : {X : Type 0} (R : X → X → Type 0) (x : X) (xs : List X) → AllPairs R (x ∷ xs) → AllPairs R xs
@@ -40,7 +42,8 @@ pairs_head R x xs pairs y has =
     let is : Contains xs y = contained xs y has in
     subst (R x) is.2 (pairs 0 (suc is.0) y (omega arith) (omega (arith, is.1)))
 
-pub pairs_cons : {X : Type 0} (R : X → X → Type 0) (x : X) (xs : List X) → ((y : X) → Has xs y → R x y) → AllPairs R xs → AllPairs R (x ∷ xs)
+pub pairs_cons : {X : Type 0} (R : X → X → Type 0) (x : X) (xs : List X) → ((y : X) → Has xs y → R x y)
+    → AllPairs R xs → AllPairs R (x ∷ xs)
 pairs_cons R x xs head tail zero zero d before within = absurd (omega arith)
 pairs_cons {X} R x xs head tail zero (suc j) d before within = each_all (R x) xs head j d (omega arith)
 pairs_cons R x xs head tail (suc i) zero d before within = absurd (omega arith)
@@ -57,7 +60,8 @@ Apart (number ∷ later) = (Has later number → ⊥) × Apart later
 pub apart_differ : (numbers : List ℕ) → Apart numbers → Differ numbers
 apart_differ [] apart = pairs_nil (λ first second. first ≢ second)
 apart_differ (number ∷ later) apart =
-    pairs_cons (λ first second. first ≢ second) number later (λ other has same. apart.0 (subst (Has later) (sym same) has)) (apart_differ later apart.1)
+    pairs_cons (λ first second. first ≢ second) number later (λ other has same. apart.0 (subst (Has later) (sym same) has))
+    (apart_differ later apart.1)
 
 pub differ_apart : (numbers : List ℕ) → Differ numbers → Apart numbers
 differ_apart [] differ = tt
@@ -66,7 +70,8 @@ differ_apart (number ∷ later) differ = (
   differ_apart later (pairs_tail (λ first second. first ≢ second) number later differ),
 )
 
-pub apart_append : (first later : List ℕ) → Apart first → Apart later → ((number : ℕ) → Has first number → Has later number → ⊥) → Apart (first ++ later)
+pub apart_append : (first later : List ℕ) → Apart first → Apart later → ((number : ℕ) → Has first number → Has later number → ⊥)
+    → Apart (first ++ later)
 apart_append [] later one other none = other
 apart_append (number ∷ first) later one other none = (
   λ has. elim (has_either first later number has) [ inl is ↦ one.0 is | inr is ↦ none number (inl refl) is ],
@@ -118,7 +123,8 @@ module _ {X : Type 0} (key : X → ℕ) where
   rise_filter test (x ∷ xs) rise = by_test (test x) (rise_filter test xs (pairs_tail (λ one other. key one < key other) x xs rise)) where
     by_test : (b : Bool) → RiseBy (filter test xs) → RiseBy (cond b (x ∷ filter test xs) (filter test xs))
     by_test true rest =
-        pairs_cons (λ one other. key one < key other) x (filter test xs) (λ y has. pairs_head (λ one other. key one < key other) x xs rise y (filtered_has test xs y has).0) rest
+        pairs_cons (λ one other. key one < key other) x (filter test xs)
+        (λ y has. pairs_head (λ one other. key one < key other) x xs rise y (filtered_has test xs y has).0) rest
     by_test false rest = rest
 
   not_less : (o : Ordering) (a b : ℕ) → MatchOrdering o (b < a) (b ≡ a) (a < b) → a < b → is_lt o ≡ false
@@ -128,7 +134,8 @@ module _ {X : Type 0} (key : X → ℕ) where
 
   rise_sorted : (xs : List X) → RiseBy xs → IsSortedBy (λ a b. is_lt (nat_cmp (key a) (key b))) xs
   rise_sorted xs rise k d low high =
-      not_less (nat_cmp (key (slice_index_or xs (k + 1) d)) (key (slice_index_or xs k d))) (key (slice_index_or xs k d)) (key (slice_index_or xs (k + 1) d))
+      not_less (nat_cmp (key (slice_index_or xs (k + 1) d)) (key (slice_index_or xs k d))) (key (slice_index_or xs k d))
+      (key (slice_index_or xs (k + 1) d))
       (ranks (key (slice_index_or xs (k + 1) d)) (key (slice_index_or xs k d))) (rise k (k + 1) d (omega arith) high)
 
   same_by : (o : Ordering) (a b : ℕ) → MatchOrdering o (a < b) (a ≡ b) (b < a) → o ≡ Equal → a ≡ b
@@ -160,11 +167,13 @@ module _ {X : Type 0} (key : X → ℕ) where
       let default : X = some_of xs place inside in
       let x : X = slice_index_or xs place default in
       let same : key x ≡ number = same_by (nat_cmp (key x) number) (key x) number (ranks (key x) number) (at default) in
-      sym (any_passes (λ y. key y == number) xs x (has_contained xs x (place, inside, same_default xs place x default inside)) (a_test (key x) number same))
+      sym (any_passes (λ y. key y == number) xs x (has_contained xs x (place, inside, same_default xs place x default inside))
+      (a_test (key x) number same))
   found_by xs number (Err place) rise inside at =
       let parts = at (searchable_from_sorted nat_cmp_total key xs number (rise_sorted xs rise)) in
       sym (list_any_none (λ y. key y == number) xs (λ k d within. no_test (key (slice_index_or xs k d)) number
-      (other_by (nat_cmp (key (slice_index_or xs k d)) number) (key (slice_index_or xs k d)) number (ranks (key (slice_index_or xs k d)) number)
+      (other_by (nat_cmp (key (slice_index_or xs k d)) number) (key (slice_index_or xs k d)) number
+      (ranks (key (slice_index_or xs k d)) number)
       (elim (cases_lt k place) [ inl before ↦ inl (parts.0 k d (omega arith) before) | inr after ↦ inr (parts.1 k d after within) ]))))
 
   -- what is sorted by the number, and has no number twice, rises
@@ -172,7 +181,8 @@ module _ {X : Type 0} (key : X → ℕ) where
   sorted_rise xs ys same differ sorted i j d before within =
       let moved : Differ (map key ys) =
       AllPairs-from_IsDistinct same_number (map key ys)
-      (IsDistinct-IsPermutation nat_eq flips (map key xs) (map key ys) (IsPermutation-map key xs ys same) (IsDistinct-from_AllPairs same_number (map key xs) differ)) in
+      (IsDistinct-IsPermutation nat_eq flips (map key xs) (map key ys) (IsPermutation-map key xs ys same)
+      (IsDistinct-from_AllPairs same_number (map key xs) differ)) in
       let apart : key (slice_index_or ys i d) ≢ key (slice_index_or ys j d) =
       pairs_unmap (λ one other. one ≢ other) ys moved i j d before within in
       let at_most : key (slice_index_or ys i d) ≤ key (slice_index_or ys j d) = sorted i j d (omega arith) within in
@@ -191,12 +201,15 @@ module _ {X : Type 0} (key : X → ℕ) where
             rw (sym first, sym second) (pairs i j (key d) before inside)
 
 -- tests that agree on each element find alike
-pub any_alike : {X : Type 0} (one other : X → Bool) (xs : List X) → ((x : X) → Has xs x → one x ≡ other x) → list_any one xs ≡ list_any other xs
+pub any_alike : {X : Type 0} (one other : X → Bool) (xs : List X) → ((x : X) → Has xs x → one x ≡ other x)
+    → list_any one xs ≡ list_any other xs
 any_alike one other [] same = refl
-any_alike one other (x ∷ xs) same = ap (λ b. b || list_any one xs) (same x (inl refl)) ∙ ap (λ b. other x || b) (any_alike one other xs (λ y has. same y (inr has)))
+any_alike one other (x ∷ xs) same = ap (λ b. b || list_any one xs) (same x (inl refl))
+    ∙ ap (λ b. other x || b) (any_alike one other xs (λ y has. same y (inr has)))
 
 -- and keep alike
-pub filter_alike : {X : Type 0} (one other : X → Bool) (xs : List X) → ((x : X) → Has xs x → one x ≡ other x) → filter one xs ≡ filter other xs
+pub filter_alike : {X : Type 0} (one other : X → Bool) (xs : List X) → ((x : X) → Has xs x → one x ≡ other x)
+    → filter one xs ≡ filter other xs
 filter_alike one other [] same = refl
 filter_alike one other (x ∷ xs) same =
     ap (λ b. cond b (x ∷ filter one xs) (filter one xs)) (same x (inl refl))

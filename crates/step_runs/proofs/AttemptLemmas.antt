@@ -47,7 +47,8 @@ along_before table steps start middle recovery image handed is = record {
 
 pub runs_after_recoveries : RunsAfterRecoveries
 runs_after_recoveries table steps start middle end shown recovery legal run =
-    let weaker : (image : Files) (handed : List Handed) → IsAlong table steps middle.now image handed → IsAlong table steps start.now image handed =
+    let weaker : (image : Files) (handed : List Handed) → IsAlong table steps middle.now image handed
+    → IsAlong table steps start.now image handed =
     along_before table steps start middle recovery in
     record {
       shown = shown;

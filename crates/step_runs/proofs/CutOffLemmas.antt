@@ -24,7 +24,8 @@ calls_are_cut_off table steps old new legal quiet shows call =
     }
 
 -- an image after later steps is one after all
-shows_after : (table : JobTable) (first later next : List Step) (image : Files) → ShowsAfterPrefix (after_steps table first) later next image →
+shows_after : (table : JobTable) (first later next : List Step) (image : Files)
+    → ShowsAfterPrefix (after_steps table first) later next image →
     ShowsAfterPrefix table (first ++ later) next image
 shows_after table first later next image is = record {
   prefix = is.prefix;

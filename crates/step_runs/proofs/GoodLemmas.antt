@@ -22,7 +22,8 @@ module _ (old new : World) (good : IsGoodDirectory old.now.directory) where
   shown_good image is = (let from : IsGood is.from = good is.from is.was in (from.0, is.same ∙ from.1))
 
   -- and so is one along the steps
-  on_the_way_good : (table : JobTable) (steps : List Step) (image : Files) (handed : List Handed) → IsPartlyDone table steps old.now image handed → IsGood image
+  on_the_way_good : (table : JobTable) (steps : List Step) (image : Files) (handed : List Handed)
+      → IsPartlyDone table steps old.now image handed → IsGood image
   on_the_way_good table steps image handed (inl before) = shown_good image before.0
   on_the_way_good table steps image handed (inr along) = (after_steps table along.stepping.prefix, along.stepping.shows)
 
@@ -41,8 +42,10 @@ runs_keep_good table steps old new good run = keeps_good old new good
 
 pub unbegun_attempts_keep_good : UnbegunAttemptsKeepGood
 unbegun_attempts_keep_good old new good unbegun = keeps_good old new good
-    (leaves_weaker (IsAsBefore old.now) (λ image handed. IsGood image) old new (λ image handed is. shown_good old new good image is.0) unbegun.leaves)
+    (leaves_weaker (IsAsBefore old.now) (λ image handed. IsGood image) old new
+    (λ image handed is. shown_good old new good image is.0) unbegun.leaves)
 
 pub begun_attempts_keep_good : BegunAttemptsKeepGood
 begun_attempts_keep_good table steps old new good begun = keeps_good old new good
-    (leaves_weaker (IsPartlyDone table steps old.now) (λ image handed. IsGood image) old new (on_the_way_good old new good table steps) begun.leaves)
+    (leaves_weaker (IsPartlyDone table steps old.now) (λ image handed. IsGood image) old new
+    (on_the_way_good old new good table steps) begun.leaves)

@@ -56,12 +56,17 @@ by_now_then table first later given more before by_now = elim by_now [
 pub quiet_prefix : (table : JobTable) (prefix after : List Step) → StartNothing (prefix ++ after) → Hands table prefix []
 quiet_prefix table [] after quiet = refl
 quiet_prefix table (Draw ∷ others) after quiet = ([], [], refl, quiet_prefix (after_step table Draw) others after quiet, refl)
-quiet_prefix table (Accept number job ∷ others) after quiet = ([], [], refl, quiet_prefix (after_step table (Accept number job)) others after quiet, refl)
-quiet_prefix table (Remove number ∷ others) after quiet = ([], [], refl, quiet_prefix (after_step table (Remove number)) others after quiet, refl)
+quiet_prefix table (Accept number job ∷ others) after quiet =
+    ([], [], refl, quiet_prefix (after_step table (Accept number job)) others after quiet, refl)
+quiet_prefix table (Remove number ∷ others) after quiet =
+    ([], [], refl, quiet_prefix (after_step table (Remove number)) others after quiet, refl)
 quiet_prefix table (Start number second ∷ others) after quiet = absurd quiet
-quiet_prefix table (End number ending ∷ others) after quiet = ([], [], refl, quiet_prefix (after_step table (End number ending)) others after quiet, refl)
-quiet_prefix table (Interrupt number ∷ others) after quiet = ([], [], refl, quiet_prefix (after_step table (Interrupt number)) others after quiet, refl)
-quiet_prefix table (Forget number ∷ others) after quiet = ([], [], refl, quiet_prefix (after_step table (Forget number)) others after quiet, refl)
+quiet_prefix table (End number ending ∷ others) after quiet =
+    ([], [], refl, quiet_prefix (after_step table (End number ending)) others after quiet, refl)
+quiet_prefix table (Interrupt number ∷ others) after quiet =
+    ([], [], refl, quiet_prefix (after_step table (Interrupt number)) others after quiet, refl)
+quiet_prefix table (Forget number ∷ others) after quiet =
+    ([], [], refl, quiet_prefix (after_step table (Forget number)) others after quiet, refl)
 
 -- one step has started nothing, or is a start whose script is wanting
 pub one_by_now : (table : JobTable) (step : Step) → HandsByNow table (step ∷ []) []

@@ -29,7 +29,8 @@ pub prefixes_then : (start middle end : World) (more : List Handed) → HandsPre
     end.now.handed ≡ middle.now.handed ++ more → HandsPrefixes start end
 prefixes_then start middle end more before after grown =
     leaves_then _ start middle end
-    (leaves_weaker _ _ start middle (λ image handed is. (is.0 ++ more, grown ∙ ap (λ (l : List Handed). l ++ more) is.1 ∙ append_assoc handed is.0 more)) before)
+    (leaves_weaker _ _ start middle
+    (λ image handed is. (is.0 ++ more, grown ∙ ap (λ (l : List Handed). l ++ more) is.1 ∙ append_assoc handed is.0 more)) before)
     after
 
 -- a call that starts nothing

@@ -21,8 +21,10 @@ use Rattle.step_runs.proofs.ApartLemmas.{Apart}
 entries_apart : (list : List (ℕ × JobEntry)) → T (is_sorted nat_cmp list) → Apart (map (λ entry. entry.0) list)
 entries_apart [] sorted = tt
 entries_apart (first ∷ later) sorted = (
-  λ has. (let made : (entry : ℕ × JobEntry) × Has later entry × (entry.0 ≡ first.0) = made_has (λ (entry : ℕ × JobEntry). entry.0) later first.0 has in
-      let less : first.0 < made.0.0 = ranked first.0 made.0.0 Less (sym (below nat_cmp first.0 later made.0 (left (below_all nat_cmp first.0 later) (is_sorted nat_cmp later) sorted) made.1)) in
+  λ has. (let made : (entry : ℕ × JobEntry) × Has later entry × (entry.0 ≡ first.0) =
+      made_has (λ (entry : ℕ × JobEntry). entry.0) later first.0 has in
+      let less : first.0 < made.0.0 = ranked first.0 made.0.0 Less
+      (sym (below nat_cmp first.0 later made.0 (left (below_all nat_cmp first.0 later) (is_sorted nat_cmp later) sorted) made.1)) in
       omega (arith, less, made.2)),
   entries_apart later (right (below_all nat_cmp first.0 later) (is_sorted nat_cmp later) sorted),
 )
@@ -32,7 +34,8 @@ given_apart : {X Y : Type 0} (key : X → ℕ) (name : Y → ℕ) (give : X → 
     (xs : List X) → Apart (map key xs) → Apart (map name (filter_map give xs))
 given_apart key name give same [] apart = tt
 given_apart {X} {Y} key name give same (x ∷ xs) apart = by_given (give x) refl (given_apart key name give same xs apart.1) where
-  by_given : (given : Option Y) → give x ≡ given → Apart (map name (filter_map give xs)) → Apart (map name (cons_option given (filter_map give xs)))
+  by_given : (given : Option Y) → give x ≡ given → Apart (map name (filter_map give xs))
+      → Apart (map name (cons_option given (filter_map give xs)))
   by_given None is rest = rest
   by_given (Some y) is rest = (
     λ has. (let made : (z : Y) × Has (filter_map give xs) z × (name z ≡ name y) = made_has name (filter_map give xs) (name y) has in
@@ -78,14 +81,17 @@ done_apart table = subst Apart (same_numbers (done_numbers table))
 -- an entry is under its number
 entry_held : (table : JobTable) (entry : ℕ × JobEntry) → Has (entries table.entries) entry → entry_at table entry.0 ≡ Some entry.1
 entry_held table entry has =
-    get-entries table.entries entry.0 ∙ has_key nat_cmp nat_cmp_total (entries table.entries) entry.0 entry.1 (entries_sorted table.entries) has
+    get-entries table.entries entry.0
+    ∙ has_key nat_cmp nat_cmp_total (entries table.entries) entry.0 entry.1 (entries_sorted table.entries) has
 
 -- a row is that of a live job in its state
-pub row_held : (table : JobTable) (row : Row) → Has (live_rows table) row → (job : Job) × (entry_at table row.number ≡ Some (Live job row.state))
+pub row_held : (table : JobTable) (row : Row) → Has (live_rows table) row
+    → (job : Job) × (entry_at table row.number ≡ Some (Live job row.state))
 row_held table row has =
     let of = given_has (λ (entry : ℕ × JobEntry). row_under entry.0 entry.1) (entries table.entries) row has in
     by_entry of.0.0 of.0.1 (entry_held table of.0 of.1) of.2 where
-      by_entry : (number : ℕ) (found : JobEntry) → entry_at table number ≡ Some found → row_under number found ≡ Some row → (job : Job) × (entry_at table row.number ≡ Some (Live job row.state))
+      by_entry : (number : ℕ) (found : JobEntry) → entry_at table number ≡ Some found → row_under number found ≡ Some row
+          → (job : Job) × (entry_at table row.number ≡ Some (Live job row.state))
       by_entry number (Live job state) held is =
           let same : record { number = number; queue = job.queue; minute = job.minute; user = job.user; state = state } ≡ row = cc in (
             job,
@@ -98,7 +104,8 @@ pub done_held : (table : JobTable) (number : ℕ) → Has (done_numbers table) n
 done_held table number has =
     let of = given_has (λ (entry : ℕ × JobEntry). done_under entry.0 entry.1) (entries table.entries) number has in
     by_entry of.0.0 of.0.1 (entry_held table of.0 of.1) of.2 where
-      by_entry : (under : ℕ) (found : JobEntry) → entry_at table under ≡ Some found → done_under under found ≡ Some number → IsDone table number
+      by_entry : (under : ℕ) (found : JobEntry) → entry_at table under ≡ Some found
+          → done_under under found ≡ Some number → IsDone table number
       by_entry under (Live job state) held is = let impossible : ◌≡◌ {A = Option ℕ} None (Some number) = is in cc
       by_entry under (Done fate) held is = let same : under ≡ number = cc in (fate, ap (entry_at table) (sym same) ∙ held)
 

@@ -50,7 +50,8 @@ along_after table first later given start middle before image handed is = record
     prefix = first ++ is.stepping.prefix;
     is_prefix = prefix_after first is.stepping.prefix later is.stepping.is_prefix;
     shows = subst (Shows image) (sym (steps_then table first is.stepping.prefix)) is.stepping.shows;
-    others = others_then start.now.directory middle.now.directory image (λ from was. (before.run.now from was).stepping.others) is.stepping.others;
+    others = others_then start.now.directory middle.now.directory image
+        (λ from was. (before.run.now from was).stepping.others) is.stepping.others;
   };
   given = given ++ is.given;
   grown = is.grown ∙ ap (λ (l : List Handed). l ++ is.given) before.handed ∙ append_assoc start.now.handed given is.given;
@@ -65,7 +66,8 @@ prefixes_run_as_the_steps table prefix steps old new is run = subst (λ (all : L
 
 pub runs_go_on : RunsGoOn
 runs_go_on table first later given start middle end before after =
-    let weaker : (image : Files) (handed : List Handed) → IsAlong (after_steps table first) later middle.now image handed → IsAlong table (first ++ later) start.now image handed =
+    let weaker : (image : Files) (handed : List Handed) → IsAlong (after_steps table first) later middle.now image handed
+    → IsAlong table (first ++ later) start.now image handed =
     along_after table first later given start middle before in
     record {
       leaves = leaves_then (IsAlong table (first ++ later) start.now) start middle end

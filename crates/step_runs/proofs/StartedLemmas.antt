@@ -33,10 +33,15 @@ started_entry table number second legal =
     ap (λ found. finite.get (with_state number (Running second) found table.entries) number) legal.1
     ∙ get-put_same table.entries number (Live legal.0 (Running second))
 
-same_job : (one other : Job) (state since : JobState) → ◌≡◌ {A = Option JobEntry} (Some (Live one state)) (Some (Live other since)) → one ≡ other
+same_job : (one other : Job) (state since : JobState)
+    → ◌≡◌ {A = Option JobEntry} (Some (Live one state)) (Some (Live other since)) → one ≡ other
 same_job one other state since is = cc
 
-module _ (table : JobTable) (number : ℕ) (second : ℤ) (name : List ℕ) (nice : ℕ) (kept : Kept) (old middle new : World) (legal : IsLegal table (Start number second)) (shows : EachShows old.now.directory table) (call : ChangesFiles (IsSteppingOn table (Start number second ∷ []) old.now.directory) old middle) (current : IsCurrent kept middle.now.directory (after_step table (Start number second))) (others : KeepsOthers old.now.directory middle.now.directory) (file : IsScriptFile (after_step table (Start number second)) (reading middle) number name nice) where
+module _ (table : JobTable) (number : ℕ) (second : ℤ) (name : List ℕ) (nice : ℕ) (kept : Kept)
+    (old middle new : World) (legal : IsLegal table (Start number second)) (shows : EachShows old.now.directory table)
+    (call : ChangesFiles (IsSteppingOn table (Start number second ∷ []) old.now.directory) old middle) (current : IsCurrent kept
+    middle.now.directory (after_step table (Start number second))) (others : KeepsOthers old.now.directory middle.now.directory)
+    (file : IsScriptFile (after_step table (Start number second)) (reading middle) number name nice) where
   -- the run of the start alone
   run_of_start : Runs table (Start number second ∷ []) old middle
   run_of_start = one_step_is_a_run table (Start number second) old middle shows call
@@ -59,7 +64,8 @@ module _ (table : JobTable) (number : ℕ) (second : ℤ) (name : List ℕ) (nic
       }
 
   -- the start is in each image of the directory
-  abbrev holds : (image : Files) → IsImage middle.now.directory image → IsSteppingOn table (Start number second ∷ []) old.now.directory image
+  abbrev holds : (image : Files) → IsImage middle.now.directory image
+      → IsSteppingOn table (Start number second ∷ []) old.now.directory image
   holds image is = record {
     prefix = Start number second ∷ [];
     is_prefix = ([], refl);
@@ -77,7 +83,8 @@ module _ (table : JobTable) (number : ℕ) (second : ℤ) (name : List ℕ) (nic
     grown : new.now.handed ≡ old.now.handed ++ given ∷ []
     grown = over.handed ∙ ap (λ (l : List Handed). l ++ given ∷ []) call.handed
 
-    along : (image : Files) (handed : List Handed) → IsImage middle.now.directory image × ((handed ≡ middle.now.handed) ⊎ (handed ≡ new.now.handed)) →
+    along : (image : Files) (handed : List Handed) → IsImage middle.now.directory image
+        × ((handed ≡ middle.now.handed) ⊎ (handed ≡ new.now.handed)) →
         IsAlong table (Start number second ∷ []) old.now image handed
     along image handed (is, inl before) = record {
       stepping = holds image is;
@@ -85,15 +92,18 @@ module _ (table : JobTable) (number : ℕ) (second : ℤ) (name : List ℕ) (nic
       grown = before ∙ call.handed ∙ sym (append-nil old.now.handed);
       hands = one_by_now table (Start number second);
     }
-    along image handed (is, inr after) = record { stepping = holds image is; given = given ∷ []; grown = after ∙ grown; hands = inl hands_it }
+    along image handed (is, inr after) =
+        record { stepping = holds image is; given = given ∷ []; grown = after ∙ grown; hands = inl hands_it }
 
-    at_moment : (image : Files) (handed : List Handed) → IsImage middle.now.directory image × ((handed ≡ middle.now.handed) ⊎ (handed ≡ new.now.handed)) →
+    at_moment : (image : Files) (handed : List Handed) → IsImage middle.now.directory image
+        × ((handed ≡ middle.now.handed) ⊎ (handed ≡ new.now.handed)) →
         (rest : List Handed) × (new.now.handed ≡ handed ++ rest)
     at_moment image handed (is, inl before) = (given ∷ [], over.handed ∙ ap (λ (l : List Handed). l ++ given ∷ []) (sym before))
     at_moment image handed (is, inr after) = ([], sym after ∙ sym (append-nil handed))
 
     handed_over : new.now.directory ≡ middle.now.directory → new.asked ≡ middle.asked →
-        LeavesOnly (λ image handed. IsImage middle.now.directory image × ((handed ≡ middle.now.handed) ⊎ (handed ≡ new.now.handed))) middle new →
+        LeavesOnly (λ image handed. IsImage middle.now.directory image
+        × ((handed ≡ middle.now.handed) ⊎ (handed ≡ new.now.handed))) middle new →
         IsStarted table number second flag kept old new
     handed_over same asked leaves = record {
       handed = given;
@@ -112,7 +122,8 @@ module _ (table : JobTable) (number : ℕ) (second : ℤ) (name : List ℕ) (nic
         current = subst (λ (of : Directory). IsCurrent kept of (after_step table (Start number second))) (sym same) current;
         others = subst (KeepsOthers old.now.directory) (sym same) others;
         legal = (legal, tt);
-        prefixes = prefixes_then old middle new (given ∷ []) (prefixes_changed (IsSteppingOn table (Start number second ∷ []) old.now.directory) old middle call)
+        prefixes = prefixes_then old middle new (given ∷ [])
+            (prefixes_changed (IsSteppingOn table (Start number second ∷ []) old.now.directory) old middle call)
             (leaves_weaker _ _ middle new at_moment leaves) over.handed;
         asked = asked ∙ call.asked ∙ sym (append-nil old.asked);
       };
@@ -120,8 +131,11 @@ module _ (table : JobTable) (number : ℕ) (second : ℤ) (name : List ℕ) (nic
 
 pub starts_end : StartsEnd
 starts_end table number second name nice kept old middle new (Ok child) legal shows call current others file is =
-    handed_over table number second name nice kept old middle new legal shows call current others file true is.outcome is.directory is.asked is.leaves
+    handed_over table number second name nice kept old middle new legal shows call current others file true is.outcome
+    is.directory is.asked is.leaves
 starts_end table number second name nice kept old middle new (Err Failed) legal shows call current others file is =
-    handed_over table number second name nice kept old middle new legal shows call current others file false is.outcome is.directory is.asked is.leaves
+    handed_over table number second name nice kept old middle new legal shows call current others file false is.outcome
+    is.directory is.asked is.leaves
 starts_end table number second name nice kept old middle new (Err Memory) legal shows call current others file is =
-    subst (AreStopped table [] (Start number second ∷ []) [] [] old) (sym is.outcome) (calls_stop_at_their_step table (Start number second) old middle legal shows call)
+    subst (AreStopped table [] (Start number second ∷ []) [] [] old) (sym is.outcome)
+    (calls_stop_at_their_step table (Start number second) old middle legal shows call)

@@ -31,7 +31,8 @@ all_legal_when_kept kept directory table steps current legal =
     (lists_legal_as_on_the_table table steps).0 (subst (λ of. AreLegal of (map step_without_script steps)) current.without_scripts_is legal)
 
 -- After these steps, which were made:
-module _ (table : JobTable) (done : List Step) (given : List Handed) (questions : List Asked) (kept : Kept) (old middle new : World) (made : AreMade table done given questions kept old middle) where
+module _ (table : JobTable) (done : List Step) (given : List Handed) (questions : List Asked) (kept : Kept) (old middle new : World)
+    (made : AreMade table done given questions kept old middle) where
   -- a call of the store makes its step
   pub step_after : {E : Type 0} (step : Step) (last : Kept) → IsLegal (after_steps table done) step → StartNothing (step ∷ []) →
       StoreCall {E = E} (after_steps table done) (step ∷ []) middle new (Ok last) →
@@ -40,7 +41,8 @@ module _ (table : JobTable) (done : List Step) (given : List Handed) (questions 
       subst (λ given. AreMade table (done ++ step ∷ []) given questions last old new) (append-nil given)
       (subst (λ questions. AreMade table (done ++ step ∷ []) (given ++ []) questions last old new) (append-nil questions)
       (steps_are_made_after table done (step ∷ []) given [] questions [] kept last old middle new made
-      (calls_make_their_steps (after_steps table done) (step ∷ []) last middle new (legal, tt) quiet made.current.shows call.files call.current call.others)))
+      (calls_make_their_steps (after_steps table done) (step ∷ []) last middle new (legal, tt) quiet made.current.shows call.files
+      call.current call.others)))
 
   -- what stops at once, stops after them
   pub stop_after : (next : List Step) → AreStopped (after_steps table done) [] next [] [] middle new →
@@ -58,14 +60,18 @@ module _ (table : JobTable) (done : List Step) (given : List Handed) (questions 
       stop_after (step ∷ []) (calls_stop_at_their_step (after_steps table done) step middle new legal made.current.shows call.files)
 
   -- a start is made, and its script started
-  pub start_after : (number : ℕ) (second : ℤ) (flag : Bool) (last : Kept) → IsStarted (after_steps table done) number second flag last middle new →
-      (handed : Handed) × IsStartOf (after_steps table done) number handed × (flags_of (handed ∷ []) ≡ flag ∷ []) × AreMade table (done ++ Start number second ∷ []) (given ++ handed ∷ []) questions last old new
+  pub start_after : (number : ℕ) (second : ℤ) (flag : Bool) (last : Kept)
+      → IsStarted (after_steps table done) number second flag last middle new →
+      (handed : Handed) × IsStartOf (after_steps table done) number handed × (flags_of (handed ∷ []) ≡ flag ∷ [])
+      × AreMade table (done ++ Start number second ∷ []) (given ++ handed ∷ []) questions last old new
   start_after number second flag last started = (
     started.handed,
     started.is,
     started.flagged,
-    subst (λ questions. AreMade table (done ++ Start number second ∷ []) (given ++ started.handed ∷ []) questions last old new) (append-nil questions)
-        (steps_are_made_after table done (Start number second ∷ []) given (started.handed ∷ []) questions [] kept last old middle new made started.made),
+    subst (λ questions. AreMade table (done ++ Start number second ∷ []) (given ++ started.handed ∷ []) questions last old new)
+        (append-nil questions)
+        (steps_are_made_after table done (Start number second ∷ []) given (started.handed ∷ []) questions [] kept last old
+        middle new made started.made),
   )
 
   -- a question is asked
@@ -73,7 +79,8 @@ module _ (table : JobTable) (done : List Step) (given : List Handed) (questions 
       AreMade table done given (questions ++ record { child = child; answer = answer } ∷ []) kept old new
   question_after child answer asks =
       subst (λ done. AreMade table done given (questions ++ record { child = child; answer = answer } ∷ []) kept old new) (append-nil done)
-      (subst (λ given. AreMade table (done ++ []) given (questions ++ record { child = child; answer = answer } ∷ []) kept old new) (append-nil given)
+      (subst (λ given. AreMade table (done ++ []) given (questions ++ record { child = child; answer = answer } ∷ []) kept old new)
+      (append-nil given)
       (steps_are_made_after table done [] given [] questions (record { child = child; answer = answer } ∷ []) kept kept old middle new made
       (questions_make_no_step (after_steps table done) kept child answer middle new made.current asks)))
 

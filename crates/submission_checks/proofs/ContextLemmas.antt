@@ -30,15 +30,18 @@ pub record HasPassed (context : Context) : Type 0 where
   pub variables : variables_check context ≡ None
 
 -- the first fault of a context, by its three tests
-fault_by : (context : Context) (user directory room : Bool) → is_user_name context.user ≡ user → is_directory context.directory ≡ directory →
+fault_by : (context : Context) (user directory room : Bool) → is_user_name context.user ≡ user
+    → is_directory context.directory ≡ directory →
     has_room context.environment ≡ room →
-    first_fault context ≡ cond user (cond directory (cond room None (Some script.EnvironmentTooLarge)) (Some script.BadDirectory)) (Some script.BadUser)
+    first_fault context
+    ≡ cond user (cond directory (cond room None (Some script.EnvironmentTooLarge)) (Some script.BadDirectory)) (Some script.BadUser)
 fault_by context false directory room is_user is_way is_room = rw is_user refl
 fault_by context true false room is_user is_way is_room = rw (is_user, is_way) refl
 fault_by context true true false is_user is_way is_room = rw (is_user, is_way, is_room) refl
 fault_by context true true true is_user is_way is_room = rw (is_user, is_way, is_room) refl
 
-passed_by : (context : Context) (user directory room : Bool) → is_user_name context.user ≡ user → is_directory context.directory ≡ directory →
+passed_by : (context : Context) (user directory room : Bool) → is_user_name context.user ≡ user
+    → is_directory context.directory ≡ directory →
     has_room context.environment ≡ room → first_fault context ≡ None → HasPassed context
 passed_by context false directory room is_user is_way is_room none =
     let two : None ≡ Some script.BadUser = sym none ∙ fault_by context false directory room is_user is_way is_room in cc
@@ -74,7 +77,8 @@ refused_by : (context : Context) (fault : ScriptFault) (user directory room : Bo
     is_directory context.directory ≡ directory → has_room context.environment ≡ room → first_fault context ≡ Some fault →
     IsContextRefused fault context
 refused_by context fault false directory room is_user is_way is_room some =
-    let same : script.BadUser ≡ fault = some_one script.BadUser fault (sym (fault_by context false directory room is_user is_way is_room) ∙ some) in
+    let same : script.BadUser ≡ fault =
+    some_one script.BadUser fault (sym (fault_by context false directory room is_user is_way is_room) ∙ some) in
     record {
       refusal = BadUser;
       is = sym (ap cause_of_script same);
@@ -85,7 +89,8 @@ refused_by context fault false directory room is_user is_way is_room some =
       before_input = refl;
     }
 refused_by context fault true false room is_user is_way is_room some =
-    let same : script.BadDirectory ≡ fault = some_one script.BadDirectory fault (sym (fault_by context true false room is_user is_way is_room) ∙ some) in
+    let same : script.BadDirectory ≡ fault =
+    some_one script.BadDirectory fault (sym (fault_by context true false room is_user is_way is_room) ∙ some) in
     record {
       refusal = BadDirectory;
       is = sym (ap cause_of_script same);
@@ -96,7 +101,8 @@ refused_by context fault true false room is_user is_way is_room some =
       before_input = refl;
     }
 refused_by context fault true true false is_user is_way is_room some =
-    let same : script.EnvironmentTooLarge ≡ fault = some_one script.EnvironmentTooLarge fault (sym (fault_by context true true false is_user is_way is_room) ∙ some) in
+    let same : script.EnvironmentTooLarge ≡ fault =
+    some_one script.EnvironmentTooLarge fault (sym (fault_by context true true false is_user is_way is_room) ∙ some) in
     record {
       refusal = EnvironmentTooLarge;
       is = sym (ap cause_of_script same);

@@ -34,7 +34,8 @@ use Rattle.submission_checks.specs.declared.submission.Submission.{Submission}
 use Rattle.submission_checks.proofs.ContextLemmas.{HasPassed, IsContextRefused, context_refused, pass, stop}
 
 -- what a test of the clock's answer, as the machine holds it, says of the answer
-pub same_second : (second : ℤ) (answer : Bool) → FitsSigned w64 second → answer ≡ is_clock_second (to_z w64 (of_z w64 second)) → is_clock_second second ≡ answer
+pub same_second : (second : ℤ) (answer : Bool) → FitsSigned w64 second → answer ≡ is_clock_second (to_z w64 (of_z w64 second))
+    → is_clock_second second ≡ answer
 same_second second answer fits is = sym (is ∙ ap is_clock_second (to_z-of_z w64 second fits))
 
 -- a refusal by the verdict keeps the order
@@ -42,7 +43,8 @@ refused : (verdict : Option Refusal) (refusal : Refusal) → verdict ≡ Some re
 refused verdict refusal is = rw is (inl refl)
 
 -- the minute that is meant at the second now, as the call had it
-pub meant_at : (when : When) (given now : ℤ) (zone : Zone) (time : Result ℕ Refusal) → given ≡ now → IsMeant when given zone time → IsMeant when now zone time
+pub meant_at : (when : When) (given now : ℤ) (zone : Zone) (time : Result ℕ Refusal) → given ≡ now → IsMeant when given zone time
+    → IsMeant when now zone time
 meant_at when given now zone time same meant = subst (λ (of : ℤ). IsMeant when of zone time) same meant
 
 -- an out-of-memory error keeps the order
@@ -170,7 +172,8 @@ module _ (readings_tell inputs_tell : Bool) (caller : Caller) (mail : Bool) (fil
             }
 
         -- the time means no minute
-        time_stops : (refusal : Refusal) → IsMeant when now caller.zone (Err refusal) → is_earlier_check of_variables (check_of refusal) ≡ true →
+        time_stops : (refusal : Refusal) → IsMeant when now caller.zone (Err refusal)
+            → is_earlier_check of_variables (check_of refusal) ≡ true →
             is_earlier_check of_input (check_of refusal) ≡ false → is_earlier_check (check_of refusal) of_lock ≡ true →
             Prepares readings_tell inputs_tell caller mail file when before after contents (Err (error_of (Refused refusal)))
         time_stops refusal meant after_clock before_input early =
@@ -195,15 +198,18 @@ module _ (readings_tell inputs_tell : Bool) (caller : Caller) (mail : Bool) (fil
             Prepares readings_tell inputs_tell caller mail file when before after contents (Err (error_of cause))
         meant_stops Memory none = memory_stops
         meant_stops (Refused refusal) none = elim none.comes [
-          | inl is ↦ time_stops refusal none.time (ap (λ check. is_earlier_check of_variables check) is) (ap (λ check. is_earlier_check of_input check) is) (ap (λ check. is_earlier_check check of_lock) is)
-          | inr is ↦ time_stops refusal none.time (ap (λ check. is_earlier_check of_variables check) is) (ap (λ check. is_earlier_check of_input check) is) (ap (λ check. is_earlier_check check of_lock) is)
+          | inl is ↦ time_stops refusal none.time (ap (λ check. is_earlier_check of_variables check) is)
+              (ap (λ check. is_earlier_check of_input check) is) (ap (λ check. is_earlier_check check of_lock) is)
+          | inr is ↦ time_stops refusal none.time (ap (λ check. is_earlier_check of_variables check) is)
+              (ap (λ check. is_earlier_check of_input check) is) (ap (λ check. is_earlier_check check of_lock) is)
         ]
         meant_stops _ none = absurd none
 
         -- at the second now as the call had it
         pub meant_stops_at : (given : ℤ) (cause : Cause) → given ≡ now → MeansNone (IsTimeOf when given caller.zone) cause →
             Prepares readings_tell inputs_tell caller mail file when before after contents (Err (error_of cause))
-        meant_stops_at given cause same none = meant_stops cause (subst (λ (of : ℤ). MeansNone (IsTimeOf when of caller.zone) cause) same none)
+        meant_stops_at given cause same none =
+            meant_stops cause (subst (λ (of : ℤ). MeansNone (IsTimeOf when of caller.zone) cause) same none)
 
         module _ (minute : ℕ) (meant : IsMeant when now caller.zone (Ok minute)) where
           from_length : (found : Found) → found.now ≡ now → found.time ≡ Ok minute → first_refusal (submission_checks caller found)
@@ -248,9 +254,11 @@ module _ (readings_tell inputs_tell : Bool) (caller : Caller) (mail : Bool) (fil
                   finds = record { time = λ beyond. meant; commands = λ tells beyond. read tells };
                   ends = record {
                     order = refused (first_refusal (submission_checks caller found)) TooLong
-                        (from_length found refl refl ∙ stop (length_check found) _ TooLong (rw (lt-ltb MAX_COMMANDS (length commands) long) refl));
+                        (from_length found refl refl
+                        ∙ stop (length_check found) _ TooLong (rw (lt-ltb MAX_COMMANDS (length commands) long) refl));
                     up_to = refused_up_to (first_refusal (submission_checks caller found)) TooLong
-                        (from_length found refl refl ∙ stop (length_check found) _ TooLong (rw (lt-ltb MAX_COMMANDS (length commands) long) refl));
+                        (from_length found refl refl
+                        ∙ stop (length_check found) _ TooLong (rw (lt-ltb MAX_COMMANDS (length commands) long) refl));
                     reach = refl;
                     early = refl;
                     comes = tt;
@@ -258,7 +266,8 @@ module _ (readings_tell inputs_tell : Bool) (caller : Caller) (mail : Bool) (fil
                 }
 
             -- no job text was made
-            script_stops : (T : Type 0) (fault : ScriptFault) → IsUsableContext caller.context → Written {T = T} caller.context commands (Err fault) →
+            script_stops : (T : Type 0) (fault : ScriptFault) → IsUsableContext caller.context
+                → Written {T = T} caller.context commands (Err fault) →
                 Prepares readings_tell inputs_tell caller mail file when before after contents (Err (error_of (cause_of_script fault)))
             script_stops T script.BadUser fit written = absurd (written fit.user)
             script_stops T script.BadDirectory fit written = absurd (written.1 fit.directory)

@@ -57,7 +57,8 @@ one_date (Err date.Memory) a b first second = absurd first
 
 module _ (text : List ℕ) (now : ℤ) (zone : Zone) where
   -- the text has no tokens
-  pub only_refused : (place : ℕ) → RefusedAt text place → IsOnlyRefusal text place → IsOnly (IsSpecTime text now zone) (Err (Timespec place))
+  pub only_refused : (place : ℕ) → RefusedAt text place → IsOnlyRefusal text place
+      → IsOnly (IsSpecTime text now zone) (Err (Timespec place))
   only_refused place refused sole = record { meant = no_tokens place refused; only = λ other is. unlike other is } where
     unlike : (other : Result ℕ Refusal) → IsSpecTime text now zone other → other ≡ Err (Timespec place)
     unlike other (no_tokens there is) = ap (λ (of : ℕ). Err (Timespec of)) (sole.no_other there is)
@@ -94,7 +95,8 @@ module _ (text : List ℕ) (now : ℤ) (zone : Zone) where
           unlike other (timespec others spelled answer found is spelling meaning date) =
               let same : others ≡ placed = sole.no_other others is in
               let same_spec : spelled ≡ spec = one spelled (subst (λ (of : List Placed). Spells (tokens_of of) spelled) same spelling) in
-              let same_answer : answer ≡ result = only_meaning answer (subst (λ (of : Spelled). TimespecMeans of now zone answer) same_spec meaning) in
+              let same_answer : answer ≡ result =
+              only_meaning answer (subst (λ (of : Spelled). TimespecMeans of now zone answer) same_spec meaning) in
               one_date result other time (subst (λ (of : Result ℕ DateFault). IsDated of other) same_answer date) dated
 
   -- the text spells no time of -t
@@ -114,7 +116,8 @@ module _ (text : List ℕ) (now : ℤ) (zone : Zone) where
         unlike other (no_touch none) = absurd (none touch spells)
         unlike other (touch_time spelled answer found spelling meaning date) =
             let same : spelled ≡ touch = one spelled spelling in
-            let same_answer : answer ≡ result = only_meaning answer (subst (λ (of : TouchTime). TouchMeans of now zone answer) same meaning) in
+            let same_answer : answer ≡ result =
+            only_meaning answer (subst (λ (of : TouchTime). TouchMeans of now zone answer) same meaning) in
             one_date result other time (subst (λ (of : Result ℕ DateFault). IsDated of other) same_answer date) dated
 
 -- a date's answer is the one time of a command
@@ -128,7 +131,8 @@ means_dated IsTime (Err date.Memory) answer only is = rw is tt
 
 -- the minute of a timespec
 pub spec_dated : (text : List ℕ) (now given : ℤ) (zone : Zone) (placed others : List Placed) (spec : Spelled) (result : Result ℕ DateFault)
-    (answer : Result ℕ CommandError) → placed ≡ others → Tokenizes text others → IsOnlyReading text others → Spells (tokens_of placed) spec →
+    (answer : Result ℕ CommandError) → placed ≡ others → Tokenizes text others → IsOnlyReading text others
+    → Spells (tokens_of placed) spec →
     ((other : Spelled) → Spells (tokens_of placed) other → other ≡ spec) → given ≡ now → TimespecMeans spec given zone result →
     IsOnlyMeaning spec given zone result → IsDatedAs result answer → MeansTime (IsSpecTime text now zone) answer
 spec_dated text now given zone placed others spec result answer same_tokens tokenizes sole spells one same means only dated =
@@ -154,12 +158,14 @@ one_touch answer touch other is also = cc
 
 -- the minute of a time of -t
 pub touch_dated : (text : List ℕ) (now given : ℤ) (zone : Zone) (touch : TouchTime) (read : Option TouchTime) (result : Result ℕ DateFault)
-    (answer : Result ℕ CommandError) → read ≡ Some touch → SpellsTouch text touch → ((time : TouchTime) → SpellsTouch text time → read ≡ Some time) →
+    (answer : Result ℕ CommandError) → read ≡ Some touch → SpellsTouch text touch
+    → ((time : TouchTime) → SpellsTouch text time → read ≡ Some time) →
     given ≡ now → TouchMeans touch given zone result → IsOnlyTouchMeaning touch given zone result → IsDatedAs result answer →
     MeansTime (IsTouchTime text now zone) answer
 touch_dated text now given zone touch read result answer is spells only_read same means only dated =
     means_dated (IsTouchTime text now zone) result answer
-    (λ time dates. only_touched text now zone touch result time spells (λ other spelled. one_touch read touch other is (only_read other spelled))
+    (λ time dates.
+    only_touched text now zone touch result time spells (λ other spelled. one_touch read touch other is (only_read other spelled))
     (subst (λ (of : ℤ). TouchMeans touch of zone result) same means)
     (subst (λ (of : ℤ). IsOnlyTouchMeaning touch of zone result) same only) dates)
     dated

@@ -22,14 +22,17 @@ last_digit number = let whole : number / 16 ^ 0 ≡ number = omega arith in ap (
 
 -- the digits before the last one are those of the number without it
 pub digit_at-suc : (number place : ℕ) → digit_at number (suc place) ≡ digit_at (number / 16) place
-digit_at-suc number place = ap (λ n. n % 16) (ap (λ power. number / power) (pow-succ' 16 place) ∙ sym (div-div-eq-div-mul number 16 (16 ^ place)))
+digit_at-suc number place =
+    ap (λ n. n % 16) (ap (λ power. number / power) (pow-succ' 16 place) ∙ sym (div-div-eq-div-mul number 16 (16 ^ place)))
 
 -- the digits of a number with one more at its end
 digit_more : (number digit place : ℕ) → digit < 16 → digit_at (number * 16 + digit) (suc place) ≡ digit_at number place
-digit_more number digit place small = digit_at-suc (number * 16 + digit) place ∙ ap (λ n. digit_at n place) (div-mul-add number 16 digit small)
+digit_more number digit place small = digit_at-suc (number * 16 + digit) place
+    ∙ ap (λ n. digit_at n place) (div-mul-add number 16 digit small)
 
 -- the place of each byte, once there is one more
-place_more : (bytes : List ℕ) (number digit place : ℕ) → SpellsNumber bytes number → digit < 16 → place < length bytes → slice_index (bytes ++ digit_byte digit ∷ []) place ≡ digit_byte (digit_at (number * 16 + digit) (length bytes - place))
+place_more : (bytes : List ℕ) (number digit place : ℕ) → SpellsNumber bytes number → digit < 16 → place < length bytes
+    → slice_index (bytes ++ digit_byte digit ∷ []) place ≡ digit_byte (digit_at (number * 16 + digit) (length bytes - place))
 place_more bytes number digit place spelled small inside =
     let right : length bytes - place ≡ suc (length bytes - 1 - place) = omega arith in
     get_or-append bytes (digit_byte digit ∷ []) 0 place inside
@@ -37,21 +40,24 @@ place_more bytes number digit place spelled small inside =
     ∙ ap digit_byte (sym (ap (digit_at (number * 16 + digit)) right ∙ digit_more number digit (length bytes - 1 - place) small))
 
 -- the last byte, once there is one more
-place_last : (bytes : List ℕ) (number digit : ℕ) → digit < 16 → slice_index (bytes ++ digit_byte digit ∷ []) (length bytes) ≡ digit_byte (digit_at (number * 16 + digit) (length bytes - length bytes))
+place_last : (bytes : List ℕ) (number digit : ℕ) → digit < 16 → slice_index (bytes ++ digit_byte digit ∷ []) (length bytes)
+    ≡ digit_byte (digit_at (number * 16 + digit) (length bytes - length bytes))
 place_last bytes number digit small =
     let right : length bytes - length bytes ≡ 0 = omega arith in
     get_or-append_seam bytes (digit_byte digit) [] 0
     ∙ ap digit_byte (sym (ap (digit_at (number * 16 + digit)) right ∙ last_digit (number * 16 + digit) ∙ mod-mul-add number 16 digit small))
 
 -- one more digit
-pub spells_more : (bytes : List ℕ) (number digit : ℕ) → SpellsNumber bytes number → digit < 16 → SpellsNumber (bytes ++ digit_byte digit ∷ []) (number * 16 + digit)
+pub spells_more : (bytes : List ℕ) (number digit : ℕ) → SpellsNumber bytes number → digit < 16
+    → SpellsNumber (bytes ++ digit_byte digit ∷ []) (number * 16 + digit)
 spells_more bytes number digit spelled small =
     let longer : List ℕ = bytes ++ digit_byte digit ∷ [] in
     let counted : length longer ≡ suc (length bytes) = simp length-append (omega arith) in
     let power : 16 ^ suc (length bytes) ≡ 16 ^ length bytes * 16 = pow-suc 16 (length bytes) in
     let fits : number < 16 ^ length bytes = spelled.fits in
     let here : ℕ → Type 0 = λ place. slice_index longer place ≡ digit_byte (digit_at (number * 16 + digit) (length bytes - place)) in
-    let all : (place : ℕ) → place < length bytes + 1 → here place = below_more here (length bytes) (λ place inside. place_more bytes number digit place spelled small inside) (place_last bytes number digit small) in
+    let all : (place : ℕ) → place < length bytes + 1 → here place = below_more here (length bytes)
+    (λ place inside. place_more bytes number digit place spelled small inside) (place_last bytes number digit small) in
     record {
       fits = rw counted (omega arith);
       each = λ place inside. let right : length bytes - place ≡ length longer - 1 - place = omega arith in
@@ -59,13 +65,16 @@ spells_more bytes number digit spelled small =
     }
 
 -- the digits up to a place and the next one
-pub read_more : (bytes : List ℕ) (count number digit : ℕ) → SpellsNumber (take count bytes) number → count < length bytes → digit < 16 → slice_index bytes count ≡ digit_byte digit → SpellsNumber (take (count + 1) bytes) (number * 16 + digit)
+pub read_more : (bytes : List ℕ) (count number digit : ℕ) → SpellsNumber (take count bytes) number → count < length bytes → digit < 16
+    → slice_index bytes count ≡ digit_byte digit → SpellsNumber (take (count + 1) bytes) (number * 16 + digit)
 read_more bytes count number digit spelled inside small here =
-    let prefix : take (count + 1) bytes ≡ take count bytes ++ digit_byte digit ∷ [] = take_more bytes count 0 inside ∙ ap (λ byte. take count bytes ++ byte ∷ []) here in
+    let prefix : take (count + 1) bytes ≡ take count bytes ++ digit_byte digit ∷ [] = take_more bytes count 0 inside
+    ∙ ap (λ byte. take count bytes ++ byte ∷ []) here in
     rw prefix (spells_more (take count bytes) number digit spelled small)
 
 -- one more digit still fits 64 bits, where there are fewer than 16
-pub more_fits : (bytes : List ℕ) (count number digit : ℕ) → SpellsNumber (take count bytes) number → length bytes ≤ 16 → count < length bytes → digit < 16 → number * 16 + digit < 2 ^ 64
+pub more_fits : (bytes : List ℕ) (count number digit : ℕ) → SpellsNumber (take count bytes) number → length bytes ≤ 16
+    → count < length bytes → digit < 16 → number * 16 + digit < 2 ^ 64
 more_fits bytes count number digit spelled few inside small =
     let counted : length (take count bytes) ≡ count = length-take-le count bytes (omega arith) in
     let power : 16 ^ suc count ≡ 16 ^ count * 16 = pow-suc 16 count in
@@ -82,7 +91,8 @@ power_of_two (suc place) =
     pow-suc 16 place ∙ ap (λ n. n * 16) (power_of_two place) ∙ sym (ap (λ n. 2 ^ n) four ∙ pow-add 2 (4 * place) 4)
 
 -- numbers with the same digits are the same
-same_digits : (count first second : ℕ) → first < 16 ^ count → second < 16 ^ count → ((place : ℕ) → place < count → digit_at first place ≡ digit_at second place) → first ≡ second
+same_digits : (count first second : ℕ) → first < 16 ^ count → second < 16 ^ count
+    → ((place : ℕ) → place < count → digit_at first place ≡ digit_at second place) → first ≡ second
 same_digits zero first second first_fits second_fits same = omega arith
 same_digits (suc count) first second first_fits second_fits same =
     let power : 16 ^ suc count ≡ 16 ^ count * 16 = pow-suc 16 count in
@@ -98,12 +108,15 @@ pub one_number : (bytes : List ℕ) (first second : ℕ) → SpellsNumber bytes 
 one_number bytes first second of_first of_second = same_digits (length bytes) first second of_first.fits of_second.fits (λ place inside.
     let byte : ℕ = length bytes - 1 - place in
     let right : length bytes - 1 - byte ≡ place = omega arith in
-    let same : digit_byte (digit_at first (length bytes - 1 - byte)) ≡ digit_byte (digit_at second (length bytes - 1 - byte)) = sym (of_first.each byte (omega arith)) ∙ of_second.each byte (omega arith) in
-    one_digit (digit_at first place) (digit_at second place) (mod_below (first / 16 ^ place) 16 (omega arith)) (mod_below (second / 16 ^ place) 16 (omega arith))
+    let same : digit_byte (digit_at first (length bytes - 1 - byte)) ≡ digit_byte (digit_at second (length bytes - 1 - byte)) =
+    sym (of_first.each byte (omega arith)) ∙ of_second.each byte (omega arith) in
+    one_digit (digit_at first place) (digit_at second place) (mod_below (first / 16 ^ place) 16 (omega arith))
+    (mod_below (second / 16 ^ place) 16 (omega arith))
     (subst (λ p. digit_byte (digit_at first p) ≡ digit_byte (digit_at second p)) right same))
 
 -- a number has one spelling of a length
-pub one_spelling : (first second : List ℕ) (number : ℕ) → length first ≡ length second → SpellsNumber first number → SpellsNumber second number → first ≡ second
+pub one_spelling : (first second : List ℕ) (number : ℕ) → length first ≡ length second → SpellsNumber first number
+    → SpellsNumber second number → first ≡ second
 one_spelling first second number counted of_first of_second = ext_get_or 0 first second counted (λ place inside.
     of_first.each place inside
     ∙ ap (λ count. digit_byte (digit_at number (count - 1 - place))) counted

@@ -20,15 +20,18 @@ table_has_values : are_values 0 DIGITS ≡ true
 unfolding are_values
 table_has_values = refl
 
-value_from : (first place : ℕ) (values : List ℕ) → are_values first values ≡ true → place < length values → get_or values place 0 ≡ value_or_none (first + place)
+value_from : (first place : ℕ) (values : List ℕ) → are_values first values ≡ true → place < length values
+    → get_or values place 0 ≡ value_or_none (first + place)
 unfolding are_values
 value_from first place [] all inside = absurd (omega (arith, inside))
 value_from first zero (value ∷ later) all inside =
     let same : first ≡ first + 0 = omega (arith) in
-    eqb-true value (value_or_none first) (and_parts (value == value_or_none first) (are_values (suc first) later) all).0 ∙ ap value_or_none same
+    eqb-true value (value_or_none first) (and_parts (value == value_or_none first) (are_values (suc first) later) all).0
+    ∙ ap value_or_none same
 value_from first (suc place) (value ∷ later) all inside =
     let same : suc first + place ≡ first + suc place = omega (arith) in
-    value_from (suc first) place later (and_parts (value == value_or_none first) (are_values (suc first) later) all).1 (omega (arith, inside)) ∙ ap value_or_none same
+    value_from (suc first) place later (and_parts (value == value_or_none first) (are_values (suc first) later) all).1
+    (omega (arith, inside)) ∙ ap value_or_none same
 
 pub table_value : (byte : ℕ) → byte < 256 → get_or DIGITS byte 0 ≡ value_or_none byte
 table_value byte small =

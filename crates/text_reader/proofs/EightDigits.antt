@@ -20,12 +20,14 @@ each_place number (suc (suc (suc (suc (suc (suc (suc (suc more)))))))) inside = 
 pub digits_spelled : (number : ℕ) → number < 16 ^ 8 → SpellsNumber (digits_of number) number
 digits_spelled number fits = record { fits = fits; each = each_place number }
 
-pub eight_spelled : (bytes : List ℕ) (number : ℕ) → number < 16 ^ 8 → bytes ≡ digits_of number → (length bytes ≡ 8) × SpellsNumber bytes number
+pub eight_spelled : (bytes : List ℕ) (number : ℕ) → number < 16 ^ 8 → bytes ≡ digits_of number
+    → (length bytes ≡ 8) × SpellsNumber bytes number
 eight_spelled bytes number fits is =
     subst (λ (list : List ℕ). (length list ≡ 8) × SpellsNumber list number) (sym is) (refl, digits_spelled number fits)
 
 -- and eight bytes that spell a number are its digits
-pub spelled_eight : (bytes : List ℕ) (number : ℕ) → length bytes ≡ 8 → SpellsNumber bytes number → (number < 16 ^ 8) × (bytes ≡ digits_of number)
+pub spelled_eight : (bytes : List ℕ) (number : ℕ) → length bytes ≡ 8 → SpellsNumber bytes number
+    → (number < 16 ^ 8) × (bytes ≡ digits_of number)
 spelled_eight bytes number counted spelled =
     let fits : number < 16 ^ 8 = subst (λ n. number < 16 ^ n) counted spelled.fits in
     (fits, one_spelling bytes (digits_of number) number counted spelled (digits_spelled number fits))

@@ -43,7 +43,8 @@ unread : (tokens : List Token) → run read.Nothing tokens ≡ None → IsExtend
 unread tokens ran onward =
     let none_read : run read.Nothing (tokens ++ onward.rest) ≡ None = run-append read.Nothing tokens onward.rest
     ∙ ap (λ (read : Option Read). option_and_then (λ more. run more onward.rest) read) ran in
-    let refused : accepts read.Nothing (tokens ++ onward.rest) ≡ None = ap (λ (read : Option Read). option_and_then timespec_read read) none_read in
+    let refused : accepts read.Nothing (tokens ++ onward.rest) ≡ None =
+    ap (λ (read : Option Read). option_and_then timespec_read read) none_read in
     cc (refused, spells_accepted (tokens ++ onward.rest) onward.whole onward.spelled)
 
 -- what begins a timespec is viable, by what is read of it
@@ -73,7 +74,8 @@ prefix_viable tokens fault count below viable =
     ∙ take-append-drop count (take fault tokens) in
     prefixes_are_viable (take count tokens) (drop count (take fault tokens) ++ onward.rest) onward.whole
     (subst (λ (all : List Token). Spells all onward.whole)
-    (ap (λ (prefix : List Token). prefix ++ onward.rest) (sym parts) ∙ append_assoc (take count tokens) (drop count (take fault tokens)) onward.rest) onward.spelled)
+    (ap (λ (prefix : List Token). prefix ++ onward.rest) (sym parts)
+    ∙ append_assoc (take count tokens) (drop count (take fault tokens)) onward.rest) onward.spelled)
 
 -- the prefix that one token more makes
 prefix_more : (placed : List Placed) (index : ℕ) (or : Placed) → index < length placed

@@ -135,7 +135,8 @@ time_goes tokens at (token.Number digits value) is =
 time_goes tokens at token.Today is =
     opening_read (tokens ++ token.Today ∷ []) at date.Today (opens_date tokens (token.Today ∷ []) at date.Today is grammar.today)
 time_goes tokens at token.Tomorrow is =
-    opening_read (tokens ++ token.Tomorrow ∷ []) at date.Tomorrow (opens_date tokens (token.Tomorrow ∷ []) at date.Tomorrow is grammar.tomorrow)
+    opening_read (tokens ++ token.Tomorrow ∷ []) at date.Tomorrow
+    (opens_date tokens (token.Tomorrow ∷ []) at date.Tomorrow is grammar.tomorrow)
 time_goes tokens at coming is = date_goes tokens at date.Absent coming (opens_time tokens at is)
 
 half_goes : (tokens : List Token) (hour minute : ℕ) (coming : Token) → IsTime tokens (clock.At hour minute false)

@@ -23,7 +23,8 @@ ends_spell _ _ nothing_read = tt
 ends_spell _ _ (hour_read digits value is) = grammar.time _ _ (grammar.clock24 _ value 0 (grammar.hour_alone digits value is))
 ends_spell _ _ (colon_read digits value is) = tt
 ends_spell _ _ (minute_read tokens value number is) = grammar.time tokens _ (grammar.clock24 tokens value number is)
-ends_spell _ _ (half_read tokens twelve value number it is which) = grammar.time _ _ (grammar.clock12 tokens twelve value number it is which)
+ends_spell _ _ (half_read tokens twelve value number it is which) =
+    grammar.time _ _ (grammar.clock12 tokens twelve value number it is which)
 ends_spell _ _ (time_read tokens at is) = grammar.time tokens at is
 ends_spell _ _ (month_read tokens at number is fits) = tt
 ends_spell _ _ (day_read tokens at number digits value is fits known) =

@@ -25,7 +25,8 @@ number_below : (text : List ℕ) (place count : ℕ)
 number_below text place zero digits = omega arith
 number_below text place (suc count) digits =
     let few : number_at text place count < ten_to count = number_below text place count (λ k from below. digits k from (omega arith)) in
-    let last : slice_index text (place + count) - 48 < 10 = digit_below text (place + count) (digits (place + count) (omega arith) (omega arith)) in
+    let last : slice_index text (place + count) - 48 < 10 =
+    digit_below text (place + count) (digits (place + count) (omega arith) (omega arith)) in
     omega arith
 
 -- eight digits spell less than a hundred million
@@ -33,7 +34,8 @@ pub number_small : (text : List ℕ) (place end : ℕ) → place ≤ end → end
     → ((k : ℕ) → place ≤ k → k < end → IsDigitAt text k)
     → number_at text place (end - place) < 100_000_000
 number_small text place end forward few digits =
-    let below : number_at text place (end - place) < ten_to (end - place) = number_below text place (end - place) (λ k from below. digits k from (omega arith)) in
+    let below : number_at text place (end - place) < ten_to (end - place) =
+    number_below text place (end - place) (λ k from below. digits k from (omega arith)) in
     let grows : ten_to (end - place) ≤ ten_to ((end - place) + (8 - (end - place))) = ten_to_grows (end - place) (8 - (end - place)) in
     let all : (end - place) + (8 - (end - place)) ≡ 8 = omega arith in
     let most : ten_to (end - place) ≤ ten_to 8 = rw all at grows in

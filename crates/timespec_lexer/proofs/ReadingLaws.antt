@@ -106,7 +106,8 @@ stops_there text place refused b few more =
       | inl none ↦ none_holds text place more.to more.next.token none
           (subst (λ (p : ℕ). HasToken text p more.to more.next.token) there more.holds)
       | inr full ↦
-          let count : length b ≡ length refused.before + length (more.next ∷ more.others) = ap length more.all ∙ length-append refused.before (more.next ∷ more.others) in
+          let count : length b ≡ length refused.before + length (more.next ∷ more.others) = ap length more.all
+          ∙ length-append refused.before (more.next ∷ more.others) in
           absurd (omega arith)
     ]
 
@@ -124,7 +125,8 @@ pub not_both : (text : List ℕ) (a : List Placed) (place : ℕ) → Tokenizes t
 not_both text a place first refused =
     elim (compare_walks text 0 a refused.before first.end refused.end first.walks refused.walks) [
       | inl both ↦
-          let separators : AreSeparators text refused.end (length text) = subst (λ (end : ℕ). AreSeparators text end (length text)) both.1 first.separators in
+          let separators : AreSeparators text refused.end (length text) =
+          subst (λ (end : ℕ). AreSeparators text end (length text)) both.1 first.separators in
           cc (separators.each place refused.separators.forward refused.inside, refused.here)
       | inr (inl more) ↦ ends_there text a refused.before first.end first.separators more
       | inr (inr more) ↦ stops_there text place refused a first.few more
@@ -135,7 +137,8 @@ pub one_refusal : (text : List ℕ) (a b : ℕ) → RefusedAt text a → Refused
 one_refusal text a b first second =
     elim (compare_walks text 0 first.before second.before first.end second.end first.walks second.walks) [
       | inl both ↦
-          one_place text first.end b a (subst (λ (end : ℕ). AreSeparators text end b) (sym both.1) second.separators) first.separators second.here first.here
+          one_place text first.end b a (subst (λ (end : ℕ). AreSeparators text end b) (sym both.1) second.separators)
+          first.separators second.here first.here
       | inr (inl more) ↦ absurd (stops_there text a first second.before second.few more)
       | inr (inr more) ↦ absurd (stops_there text b second first.before first.few more)
     ]

@@ -117,7 +117,8 @@ row_of_word : (word : List ℕ) (token : Token) (listed : Contains keywords (wor
 unfolding keywords rows_first first_row
 row_of_word word token listed =
     let first : first_row (get_or keywords listed.0 ([], Now)).0 ≡ listed.0 = row_first 59 refl listed.0 listed.1 in
-    let row : get_or keywords listed.0 ([], Now) ≡ (word, token) = get_or_default keywords listed.0 ([], Now) (word, token) listed.1 ∙ listed.2 in
+    let row : get_or keywords listed.0 ([], Now) ≡ (word, token) =
+    get_or_default keywords listed.0 ([], Now) (word, token) listed.1 ∙ listed.2 in
     ap (λ (row : List ℕ × Token). first_row row.0) (sym row) ∙ first
 
 -- a keyword has one token
@@ -127,7 +128,8 @@ one_token word a b first second =
     let there : first_row word ≡ second.0 = row_of_word word b second in
     let rows : second.0 ≡ first.0 = sym there ∙ here in
     let same : get_or keywords first.0 (word, b) ≡ (word, b) = ap (λ (k : ℕ). get_or keywords k (word, b)) (sym rows) ∙ second.2 in
-    let changed : get_or keywords first.0 (word, a) ≡ get_or keywords first.0 (word, b) = get_or_default keywords first.0 (word, a) (word, b) first.1 in
+    let changed : get_or keywords first.0 (word, a) ≡ get_or keywords first.0 (word, b) =
+    get_or_default keywords first.0 (word, a) (word, b) first.1 in
     let pair : (word, a) ≡ (word, b) = sym first.2 ∙ changed ∙ same in
     ap (λ (row : List ℕ × Token). row.1) pair
 
@@ -154,8 +156,10 @@ holds_once text from to to' token token' (inr (inr a)) (inl b) =
 holds_once text from to to' token token' (inr (inr a)) (inr (inl b)) =
     absurd (cc (mark_no_letter (slice_index text from) token' b.mark, a.letter))
 holds_once text from to to' token token' (inr (inr a)) (inr (inr b)) =
-    let less : length a.word ≤ length b.word = All-contains (IsNoLonger text from (length b.word)) keywords (a.word, token) b.longest.longest a.longest.listed a.longest.here in
-    let more : length b.word ≤ length a.word = All-contains (IsNoLonger text from (length a.word)) keywords (b.word, token') a.longest.longest b.longest.listed b.longest.here in
+    let less : length a.word ≤ length b.word =
+    All-contains (IsNoLonger text from (length b.word)) keywords (a.word, token) b.longest.longest a.longest.listed a.longest.here in
+    let more : length b.word ≤ length a.word =
+    All-contains (IsNoLonger text from (length a.word)) keywords (b.word, token') a.longest.longest b.longest.listed b.longest.here in
     let same : length a.word ≡ length b.word = omega arith in
     let word : a.word ≡ b.word = one_word text from a.word b.word a.longest.here b.longest.here same in (
       omega (arith, a.all, b.all),
@@ -172,7 +176,8 @@ pub none_holds : (text : List ℕ) (from to : ℕ) (token : Token) → BeginsNoT
 none_holds text from to token (strange digit letter mark) (inl number) = cc (first_digit text from to token number, digit)
 none_holds text from to token (strange digit letter mark) (inr (inl a)) = cc (a.mark, mark)
 none_holds text from to token (strange digit letter mark) (inr (inr keyword)) = cc (keyword.letter, letter)
-none_holds text from to token (no_word letter none) (inl number) = cc (first_digit text from to token number, letter_no_digit (slice_index text from) letter)
+none_holds text from to token (no_word letter none) (inl number) =
+    cc (first_digit text from to token number, letter_no_digit (slice_index text from) letter)
 none_holds text from to token (no_word letter none) (inr (inl a)) = cc (mark_no_letter (slice_index text from) token a.mark, letter)
 none_holds text from to token (no_word letter none) (inr (inr keyword)) =
     All-contains (λ row. ¬ HasWord text from row.0) keywords (keyword.word, token) none keyword.longest.listed keyword.longest.here

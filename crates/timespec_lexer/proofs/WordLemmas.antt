@@ -54,7 +54,8 @@ pub best_more : (text : List ℕ) (place : ℕ) (table : WordTable) (best : Opti
     → IsLongestMatch text place (table ++ (word, found.token) ∷ []) (Some next)
 best_more text place table None word found next kept here reach first longer stays =
     subst (λ (one : Found). IsLongestMatch text place (table ++ (word, found.token) ∷ []) (Some one)) (sym first)
-    (this_row text place table word found.token found.end here reach (All-weaker (λ row. ¬ HasWord text place row.0) (IsNoLonger text place (length word)) (λ row none here. absurd (none here)) table kept))
+    (this_row text place table word found.token found.end here reach
+    (All-weaker (λ row. ¬ HasWord text place row.0) (IsNoLonger text place (length word)) (λ row none here. absurd (none here)) table kept))
 best_more text place table (Some old) word found next kept here reach first longer stays =
     elim (cases_lt old.end found.end) [
       | inl less ↦
@@ -68,7 +69,8 @@ best_more text place table (Some old) word found next kept here reach first long
             record {
               listed = Contains-append_left _ _ _ kept.1.listed;
               here = kept.1.here;
-              longest = All-push (IsNoLonger text place (length kept.0)) table (word, found.token) kept.1.longest (λ _. omega (arith, kept.2));
+              longest =
+                  All-push (IsNoLonger text place (length kept.0)) table (word, found.token) kept.1.longest (λ _. omega (arith, kept.2));
             },
             kept.2,
           )

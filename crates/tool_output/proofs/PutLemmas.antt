@@ -21,7 +21,8 @@ module _ (first second : List ℕ) (start mid new : SinkAt) (put : IsPut first s
       ∙ ap (λ (before : List ℕ). before ++ prefix) put.content
       ∙ append_assoc start.content first prefix
       ∙ ap (λ (text : List ℕ). start.content ++ text) (sym (take-append_seam (first ++ prefix) rest)
-      ∙ ap (λ (text : List ℕ). take (length (first ++ prefix)) text) (append_assoc first prefix rest ∙ ap (λ (text : List ℕ). first ++ text) (sym split)))
+      ∙ ap (λ (text : List ℕ). take (length (first ++ prefix)) text) (append_assoc first prefix rest
+      ∙ ap (λ (text : List ℕ). first ++ text) (sym split)))
 
   pub put_after : IsPut second mid new → IsPut (first ++ second) start new
   put_after after = record {
@@ -52,7 +53,8 @@ cut_longer text more old new cut = record {
       cut.content
       ∙ ap (λ (prefix : List ℕ). old.content ++ prefix) (sym (take-append_seam (take cut.count text) (drop cut.count text ++ more))
       ∙ ap (λ (whole : List ℕ). take (length (take cut.count text)) whole)
-      (sym (append_assoc (take cut.count text) (drop cut.count text) more) ∙ ap (λ (whole : List ℕ). whole ++ more) (take-append-drop cut.count text)));
+      (sym (append_assoc (take cut.count text) (drop cut.count text) more)
+      ∙ ap (λ (whole : List ℕ). whole ++ more) (take-append-drop cut.count text)));
   later = cut.later;
   rose = cut.rose;
 }
@@ -60,7 +62,8 @@ cut_longer text more old new cut = record {
 pub part_of_put : (text : List ℕ) (old new : SinkAt) → IsPut text old new → IsPutInPart text old new
 part_of_put text old new put = record {
   count = length text;
-  content = put.content ∙ ap (λ (prefix : List ℕ). old.content ++ prefix) (sym (take-append_seam text []) ∙ ap (λ (whole : List ℕ). take (length text) whole) (append-nil text));
+  content = put.content ∙ ap (λ (prefix : List ℕ). old.content ++ prefix) (sym (take-append_seam text [])
+      ∙ ap (λ (whole : List ℕ). take (length text) whole) (append-nil text));
   later = put.later;
 }
 
@@ -81,7 +84,8 @@ part_longer text more old new part = record {
       part.content
       ∙ ap (λ (prefix : List ℕ). old.content ++ prefix) (sym (take-append_seam (take part.count text) (drop part.count text ++ more))
       ∙ ap (λ (whole : List ℕ). take (length (take part.count text)) whole)
-      (sym (append_assoc (take part.count text) (drop part.count text) more) ∙ ap (λ (whole : List ℕ). whole ++ more) (take-append-drop part.count text)));
+      (sym (append_assoc (take part.count text) (drop part.count text) more)
+      ∙ ap (λ (whole : List ℕ). whole ++ more) (take-append-drop part.count text)));
   later = part.later;
 }
 

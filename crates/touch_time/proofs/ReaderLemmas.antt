@@ -10,7 +10,8 @@ use Rattle.touch_time.specs.Touch.{two_digits, SpellsYear, no_year, short_year, 
 use Rattle.text_reader.specs.ReadResult.{Read, two_digits_in}
 use Rattle.text_reader.proofs.OptionLemmas.{cond_some, and_then_some, same_pair}
 
-pub read_within_complete : (low high number : ℕ) (rest : List ℕ) → IsInRange low high number → high ≤ 99 → read_within low high (two_digits number ++ rest) ≡ Some (number, rest)
+pub read_within_complete : (low high number : ℕ) (rest : List ℕ) → IsInRange low high number → high ≤ 99
+    → read_within low high (two_digits number ++ rest) ≡ Some (number, rest)
 unfolding read_within two_digits_in
 read_within_complete low high number rest within small =
     let value : (48 + number / 10 - 48) * 10 + (48 + number % 10 - 48) ≡ number = omega arith in
@@ -19,7 +20,8 @@ read_within_complete low high number rest within small =
     rw (value, digits, fits)
 
 -- two digits spell the number that they are read as
-two_digits_sound : (text rest : List ℕ) (number : ℕ) → two_digits_in text ≡ Some (number, rest) → (number ≤ 99) × (text ≡ two_digits number ++ rest)
+two_digits_sound : (text rest : List ℕ) (number : ℕ) → two_digits_in text ≡ Some (number, rest)
+    → (number ≤ 99) × (text ≡ two_digits number ++ rest)
 unfolding two_digits_in
 two_digits_sound [] rest number e = absurd (none-some _ e)
 two_digits_sound (tens ∷ []) rest number e = absurd (none-some _ e)
@@ -52,7 +54,8 @@ is_seconds_complete text (some_seconds second few) = rw (read_within_complete 0 
 last_sound : (text : List ℕ) → is_last_number (read_within 0 60 text) ≡ true → (second : ℕ) × (second ≤ 60) × (text ≡ two_digits second)
 last_sound text e = go (read_within 0 60 text) refl e
   where
-    go : (read : Read ℕ) → read_within 0 60 text ≡ read → is_last_number read ≡ true → (second : ℕ) × (second ≤ 60) × (text ≡ two_digits second)
+    go : (read : Read ℕ) → read_within 0 60 text ≡ read → is_last_number read ≡ true
+        → (second : ℕ) × (second ≤ 60) × (text ≡ two_digits second)
     go None is_read last = cc
     go (Some read) is_read last =
         let sound = read_within_sound 0 60 text read.1 read.0 is_read in
@@ -100,7 +103,8 @@ read_year_complete spelled year rest (full_year y few) long =
 abbrev pub BeginsWithYear : List ℕ → Option ℕ → List ℕ → Type 0
 BeginsWithYear text year rest = (spelled : List ℕ) × SpellsYear spelled year × (text ≡ spelled ++ rest)
 
-short_year_sound : (text : List ℕ) (year : Option ℕ) (rest : List ℕ) → read_short_year text ≡ Some (year, rest) → BeginsWithYear text year rest
+short_year_sound : (text : List ℕ) (year : Option ℕ) (rest : List ℕ) → read_short_year text ≡ Some (year, rest)
+    → BeginsWithYear text year rest
 unfolding read_short_year
 short_year_sound text year rest e =
     and_then_some _ (read_within 0 99 text) _ e λ last got e₁.
@@ -111,7 +115,8 @@ short_year_sound text year rest e =
     let within : IsInRange 1969 2068 full = grind (arith, nat_tests, sound.1) in
     (two_digits (full % 100), subst (SpellsYear (two_digits (full % 100))) value (short_year full within), rw (back, ← left) sound.2)
 
-full_year_sound : (text : List ℕ) (year : Option ℕ) (rest : List ℕ) → read_full_year text ≡ Some (year, rest) → BeginsWithYear text year rest
+full_year_sound : (text : List ℕ) (year : Option ℕ) (rest : List ℕ) → read_full_year text ≡ Some (year, rest)
+    → BeginsWithYear text year rest
 unfolding read_full_year
 full_year_sound text year rest e =
     and_then_some _ (read_within 0 99 text) _ e λ century got_century e₁.

@@ -20,7 +20,8 @@ read_touch_complete text time s =
     let parts : text ≡ s.year ++ in_parts time s.seconds = s.spelled ∙ simp append_assoc in
     rw (
       parts,
-      read_year_complete s.year time.year (in_parts time s.seconds) s.year_spelled (has_rest time s.seconds (seconds_length s.seconds s.seconds_spelled)),
+      read_year_complete s.year time.year (in_parts time s.seconds) s.year_spelled
+          (has_rest time s.seconds (seconds_length s.seconds s.seconds_spelled)),
       read_within_complete 1 12 time.month _ s.month (lit≤ tt),
       read_within_complete 1 31 time.day _ s.day (lit≤ tt),
       read_within_complete 0 23 time.hour _ (omega arith, s.hour) (lit≤ tt),

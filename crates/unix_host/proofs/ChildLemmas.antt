@@ -14,7 +14,8 @@ below_count (suc count) child is = elim (Contains-push_cases (first_children cou
 ]
 
 -- one more child
-pub one_more : (count longer id : ℕ) → longer ≡ count + 1 → id ≡ count → first_children longer ≡ first_children count ++ record { id = id } ∷ []
+pub one_more : (count longer id : ℕ) → longer ≡ count + 1 → id ≡ count
+    → first_children longer ≡ first_children count ++ record { id = id } ∷ []
 one_more count longer id is last =
     let next : longer ≡ suc count = omega (arith, is) in
     ap first_children next ∙ ap (λ n. first_children count ++ record { id = n } ∷ []) (sym last)

@@ -14,7 +14,8 @@ read_after from room count old part within fits =
     let whole = put_mid from room old part in
     take-add from count whole
     ∙ ap (λ prefix. prefix ++ take count (drop from whole)) (take-put_mid_below from room old part from (le_refl from) within)
-    ∙ ap (λ rest. take from old ++ take count rest) (drop_at (take from old) (part ++ post_of from room old) from (length-take-le from old within))
+    ∙ ap (λ rest. take from old ++ take count rest)
+    (drop_at (take from old) (part ++ post_of from room old) from (length-take-le from old within))
     ∙ ap (λ bytes. take from old ++ bytes) (take-append-le count part (post_of from room old) fits)
 
 -- what was filled by two reads, one after the other

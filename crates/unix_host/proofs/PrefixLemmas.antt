@@ -34,7 +34,8 @@ prefix_fits (suc count) (byte ∷ name) all =
     omega (
       arith,
       pow_more 256 count,
-      below_next byte 256 (256 ^ count) (prefix_number count name) (first_byte byte name all) (prefix_fits count name (other_bytes byte name all)),
+      below_next byte 256 (256 ^ count) (prefix_number count name) (first_byte byte name all)
+          (prefix_fits count name (other_bytes byte name all)),
     )
 
 below_same : (x y worth rest other : ℕ) → x ≡ y → x * worth + rest < y * worth + other → rest < other
@@ -51,7 +52,8 @@ is_same : (one other : ℕ) → (one == other) ≡ true → other ≡ one
 is_same one other test = grind (arith, nat_tests)
 
 -- the first bytes of two names decide, unless they are the same
-by_first : (x y : ℕ) (one other : List ℕ) → (y < x → ⊥) → (x ≡ y → is_lt (name_cmp other one) ≡ false) → is_lt (name_cmp (y ∷ other) (x ∷ one)) ≡ false
+by_first : (x y : ℕ) (one other : List ℕ) → (y < x → ⊥) → (x ≡ y → is_lt (name_cmp other one) ≡ false)
+    → is_lt (name_cmp (y ∷ other) (x ∷ one)) ≡ false
 by_first x y one other no_less same = by_test (nat_lt y x) refl (y == x) refl where
   by_test : (before : Bool) → nat_lt y x ≡ before → (alike : Bool) → (y == x) ≡ alike
       → is_lt (ordering_then (cond before Less (cond alike Equal Greater)) (slice_cmp nat_cmp other one)) ≡ false
@@ -76,7 +78,8 @@ prefixes_decide (suc count) (x ∷ one) (y ∷ other) ones others less =
 pub prefix_before : (p q : ℕ) (one other : List ℕ) → p ≡ prefix_number 16 one → q ≡ prefix_number 16 other
     → IsTrue (are_name_bytes one) → IsTrue (are_name_bytes other) → p < q → nat_lt p q ≡ not (is_lt (name_cmp other one))
 prefix_before p q one other p_is q_is ones others less =
-    let before : is_lt (name_cmp other one) ≡ false = prefixes_decide 16 one other ones others (subst (λ n. n < prefix_number 16 other) p_is (subst (λ n. p < n) q_is less)) in
+    let before : is_lt (name_cmp other one) ≡ false =
+    prefixes_decide 16 one other ones others (subst (λ n. n < prefix_number 16 other) p_is (subst (λ n. p < n) q_is less)) in
     let test : nat_lt p q ≡ true = grind (arith, nat_tests) in
     test ∙ sym (ap not before)
 
@@ -90,7 +93,8 @@ passes_not true is = cc is
 passes_not false is = refl
 
 -- what is in order by what it shows, shows it in order
-pub sorted_map : {X Y : Type 0} (show : X → Y) (lt : Y → Y → Bool) (xs : List X) → IsSortedBy (λ x y. lt (show x) (show y)) xs → IsSortedBy lt (map show xs)
+pub sorted_map : {X Y : Type 0} (show : X → Y) (lt : Y → Y → Bool) (xs : List X) → IsSortedBy (λ x y. lt (show x) (show y)) xs
+    → IsSortedBy lt (map show xs)
 sorted_map show lt [] sorted k e low inside = absurd (omega arith)
 sorted_map show lt (x ∷ xs) sorted k e low inside =
     let list = x ∷ xs in
@@ -113,7 +117,8 @@ byte_of count zero name = first_of count name
 byte_of count (suc place) [] = omega (arith, no_bytes count)
 byte_of count (suc place) (x ∷ name) = byte_of count place name
 
-pub sixteen_bytes : (array name : List ℕ) → ((k : ℕ) → k < 16 → get_or array k 0 ≡ get_or name k 0) → from_be_bytes w128 array ≡ prefix_number 16 name
+pub sixteen_bytes : (array name : List ℕ) → ((k : ℕ) → k < 16 → get_or array k 0 ≡ get_or name k 0)
+    → from_be_bytes w128 array ≡ prefix_number 16 name
 sixteen_bytes array name same =
     omega (
       arith,
@@ -151,7 +156,8 @@ sixteen_bytes array name same =
       same 15 (omega arith),
     )
 
-past_the_end : (zeros place : ℕ) → place < zeros → (name : List ℕ) → length name ≤ place → get_or (replicate zeros 0) place 0 ≡ get_or name place 0
+past_the_end : (zeros place : ℕ) → place < zeros → (name : List ℕ) → length name ≤ place
+    → get_or (replicate zeros 0) place 0 ≡ get_or name place 0
 past_the_end zeros place inside name past = get_or-replicate zeros place 0 0 inside ∙ sym (get_or_past name place 0 past)
 
 -- the first bytes of a name, and zeros after them, are its bytes

@@ -1,6 +1,6 @@
 -- How a file is replaced where a call before may have been cut off.
 use Rattle.std.proofs.Common.{◌≡◌, ◌≢◌, ◌∙◌, ℕ, zero, suc, ◌<◌, List, [], ◌∷◌, length, inl, inr, refl, sym, subst, arith, Contains}
-use Rattle.std.specs.Prelude.{Option, None, Some, IsSome, OnOk, Result, Ok, Err, slice_index_or}
+use Rattle.std.specs.Prelude.{Option, None, IsSome, OnOk, Result, Ok, Err, slice_index_or}
 use Rattle.std.specs.FinMap as finite
 use Rattle.host_calls.specs.Directory.{Files, Directory, IsImage}
 use Rattle.host_calls.specs.World.{World, reading}
@@ -28,7 +28,8 @@ name_is_file name files some = record {
 -- nothing is changed where there is no such file
 pub none_cleared : (name : List ℕ) (old new : World) → new ≡ old → ChangesFiles (IsClearing (name ∷ []) old.now.directory) old new
 none_cleared name old new same =
-    subst (λ now. ChangesFiles (IsClearing (name ∷ []) old.now.directory) old now) (sym same) (changes_none (IsClearing (name ∷ []) old.now.directory) old)
+    subst (λ now. ChangesFiles (IsClearing (name ∷ []) old.now.directory) old now) (sym same)
+    (changes_none (IsClearing (name ∷ []) old.now.directory) old)
 
 pub none_left : (name : List ℕ) (old new : World) (content : Option (List ℕ)) → new ≡ old → IsDurableAt name old.now.directory
     → content ≡ finite.get (reading old) name → content ≡ None → IsWithout name old.now.directory new.now.directory
@@ -43,7 +44,8 @@ name_cleared name old new cleared = record {
   others = λ other differs. cleared.others other (λ has. differs (is_the_name name other has));
 }
 
-pub removed : {T E : Type 0} (result : Result T E) (name : List ℕ) (old new : Directory) → OnOk result (AreCleared (name ∷ []) old new) → OnOk result (IsWithout name old new)
+pub removed : {T E : Type 0} (result : Result T E) (name : List ℕ) (old new : Directory) → OnOk result (AreCleared (name ∷ []) old new)
+    → OnOk result (IsWithout name old new)
 removed (Ok done) name old new cleared = name_cleared name old new cleared
 removed (Err fault) name old new cleared = tt
 
@@ -76,13 +78,15 @@ module _ (temp target bytes : List ℕ) (differ : temp ≢ target) (old middle n
   not_target : ¬ (Contains (temp ∷ []) target)
   not_target has = differ (sym (is_the_name temp target has))
 
-  cleared_is_placing : (image : Files) → IsClearing (temp ∷ []) old.now.directory image → IsPlacing temp target bytes old.now.directory image
+  cleared_is_placing : (image : Files) → IsClearing (temp ∷ []) old.now.directory image
+      → IsPlacing temp target bytes old.now.directory image
   cleared_is_placing image is = record {
     alone = record { from = is.alone.from; was = is.alone.was; others = λ name other. is.alone.others name (not_temp name other) };
     placed = inl (is.alone.others target not_target);
   }
 
-  placing_since : (image : Files) → IsPlacing temp target bytes middle.now.directory image → IsPlacing temp target bytes old.now.directory image
+  placing_since : (image : Files) → IsPlacing temp target bytes middle.now.directory image
+      → IsPlacing temp target bytes old.now.directory image
   placing_since image is =
       let from = changes_end (IsClearing (temp ∷ []) old.now.directory) old middle clears uncleared is.alone.from is.alone.was in
       record {
@@ -99,10 +103,12 @@ module _ (temp target bytes : List ℕ) (differ : temp ≢ target) (old middle n
 
   -- what was left could not be removed
   pub cleared_alone : ChangesFiles (IsPlacing temp target bytes old.now.directory) old middle
-  cleared_alone = changes_weaker (IsClearing (temp ∷ []) old.now.directory) (IsPlacing temp target bytes old.now.directory) old middle cleared_is_placing clears
+  cleared_alone = changes_weaker (IsClearing (temp ∷ []) old.now.directory) (IsPlacing temp target bytes old.now.directory) old middle
+      cleared_is_placing clears
 
   pub placed_since : ChangesFiles (IsPlacing temp target bytes middle.now.directory) middle new
       → ChangesFiles (IsPlacing temp target bytes old.now.directory) old new
   placed_since places =
-      changes_on (IsClearing (temp ∷ []) old.now.directory) (IsPlacing temp target bytes middle.now.directory) (IsPlacing temp target bytes old.now.directory)
+      changes_on (IsClearing (temp ∷ []) old.now.directory) (IsPlacing temp target bytes middle.now.directory)
+      (IsPlacing temp target bytes old.now.directory)
       old middle new cleared_is_placing placing_since clears places

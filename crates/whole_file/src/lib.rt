@@ -12,4 +12,4 @@ pub use clear_file::clear;
 pub use place_file::place;
 pub use replace_file::replace;
 pub use temporary::temporary_name;
-pub use whole_content::{content, whole};
+pub use whole_content::{content, first_bytes, whole};

@@ -32,3 +32,10 @@ case_a_header_in_a_name() {
   ! grep '^Subject' mails | grep -q "$(printf '\r')" || fail 'a line adds a header'
   grep -qx 'To: eve' mails || fail "the mail is $(cat mails)"
 }
+# from-debian-at reported whatever file has a name like that of a job which was being moved, with the bytes of that name.
+case_a_name_on_a_terminal() {
+  mkdir debian && : >debian/moving.a0000101c8b522 && : >"debian/moving.a$(printf '\033]0;FORGED\007xx')"
+  on_terminal "$libexec/from-debian-at $PWD/debian"
+  grep -q 'moving\.a0000101c8b522 was being moved' shown || fail "it shows $(cat shown)"
+  is_harmless
+}

@@ -94,12 +94,13 @@ case_door_a_long_sequence_file() {
 
 # Root's atcron takes no crontab that another user owns, or that everybody may write.
 steps_of_a_crontab_of_another() {
-  mkdir -m 700 roots theirs && : >roots/at.deny && : >theirs/at.deny && chown -R $number:$number theirs
+  # (what lies next to a spool is its user's too)
+  mkdir -m 700 roots && mkdir -p own/theirs && chmod 700 own own/theirs && : >roots/at.deny && : >own/theirs/at.deny && chown -R $number:$number own
   while IFS='|' read -r caller owner mode wanted; do
     printf '* * * * * true\n' >table; chown "$owner" table; chmod "$mode" table
     case $caller in
       root) spool=$PWD/roots by=() ;;
-      *) spool=$PWD/theirs by=(setpriv --reuid=$number --regid=$number --clear-groups) ;;
+      *) spool=$PWD/own/theirs by=(setpriv --reuid=$number --regid=$number --clear-groups) ;;
     esac
     find "$spool" -mindepth 1 ! -name at.deny -delete
     status=0; env -i PATH=/usr/bin:/bin TZ=UTC "${by[@]}" timeout 40 "$door/atcron" "$spool" -f "$PWD/table" --turns 1 >out 2>err </dev/null || status=$?
@@ -206,6 +207,8 @@ case_mail_of_restarts() {
     knock atd -s; [ "$status" = 0 ] || fail "atd: $(cat err)"
     for _ in $(seq 2000); do grep -qs "^S $mark" "$spool/.MAIL" && break; sleep 0.01; done
     grep -q "^[SN] $mark" "$spool/.MAIL" || fail "job $job has no note: $(cat posted)"
+    # (one that ends between a mark and its child has sent nothing, and the next one does not send it)
+    for _ in $(seq 50); do pgrep -f "mail\\.$mark" >/dev/null && break; sleep 0.01; done
     kill "$post"; wait "$post" 2>/dev/null; begins
   done
   for _ in $(seq 100); do [ "$(wc -l <mailed)" -lt 20 ] || break; sleep 0.1; done

@@ -25,12 +25,12 @@ case_door_first_words() {
 # Root's spool, with the user's variable, and whatever else is another's: a tool stops before it opens anything.
 steps_of_other_owners() {
   home=$PWD/home spool=$PWD/home/.local/state/coefhird/jobs
-  printf true >commands
+  printf true >commands; : >empty; chmod 644 empty
   login "$door/at" -t 203001010000 <commands 2>err || fail "their own: $(cat err)"
   listed() { find home -printf '%p %u %m %s %T@\n' | sort; }
   listed >before
   extra=(ATSPOOL="$spool" TZ=UTC)
-  for words in 'at -t 203001010000' 'batch' 'atq' 'atrm 1' 'atstat' 'atd -s' 'ataccount' 'atpost --send /bin/true --turns 1' 'atcron -f /dev/null --turns 1'; do
+  for words in 'at -t 203001010000' 'batch' 'atq' 'atrm 1' 'atstat' 'atd -s' 'ataccount' 'atpost --send /bin/true --turns 1' "atcron -f $PWD/empty --turns 1"; do
     # shellcheck disable=SC2086
     knock ${words%% *} ${words#"${words%% *}"} <commands; refused 2 "${words%% *}: spool fault"
   done

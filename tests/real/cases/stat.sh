@@ -9,7 +9,7 @@ job_of() { # number, user, queue, minute
 }
 # A spool with a number in each state: 1 to 5 have finished, 6 has neither a mark nor a file, 7 runs, 8 and 9 wait.
 each_state() {
-  opened
+  opened; named root ann ben 'a b'
   {
     slot S 1 a -00 1735689600; slot E 1 - x03
     slot S 2 a -00 1735689600; slot E 2 - s09
@@ -129,7 +129,7 @@ case_stat_looks_that_are_used_up() {
 
 # It waits for a job of a real atd, and ends as the job does.
 case_stat_waits_for_a_job() {
-  needs_atd; opened
+  needs_atd; opened; named root ann ben
   with 'touch begun; while [ ! -e go ]; do sleep 0.05; done; exit 7' at now; took 1
   (becomes timeout 60 "$bin/atstat" -w 1 >line 2>said </dev/null) & waiter=$!
   (becomes timeout 60 "$bin/atd" -s >served 2>served_said </dev/null) & daemon=$!
@@ -146,7 +146,7 @@ case_stat_waits_for_a_job() {
 
 # Without names it waits for each live job that the caller sees at first, and for none that comes later.
 case_stat_waits_for_all_at_first() {
-  needs_atd; opened
+  needs_atd; opened; named root ann ben
   with 'touch begun; while [ ! -e go ]; do sleep 0.05; done' at now; took 1
   with 'exit 3' at now; took 2
   user=ben with 'true' at -t 203001010000; took 3
@@ -163,7 +163,7 @@ case_stat_waits_for_all_at_first() {
 
 # A killed waiter held nothing and leaves nothing: the next call gets the lock at once, and no file is new.
 case_stat_that_is_killed() {
-  needs_atd; opened
+  needs_atd; opened; named root ann ben
   with 'true' at -t 203001010000; took 1
   call atq </dev/null
   for round in 1 2 3 4 5 6 7 8; do

@@ -7,7 +7,7 @@ use Rattle.listing_text.specs.declared.cause.Cause.TheVariants.{Memory, OutputFa
 use Rattle.at_stat.specs.Checks.{done_code}
 use Rattle.at_stat.specs.declared.request.StatRequest.{StatRequest}
 use Rattle.at_stat.specs.declared.status.StatExit.{StatExit}
-use Rattle.at_stat.specs.declared.wait.StatResult.{StatResult}
+use Rattle.at_stat.specs.declared.session_loop.StatResult.{StatResult}
 use Rattle.at_stat.specs.StatOutcome.{IsText, stopped_status}
 
 -- the status of what a last session saw

@@ -4,7 +4,7 @@ use Rattle.at_words.specs.declared.filter.Filter.{Filter}
 use Rattle.tool_output.specs.declared.command_error.CommandError.{CommandError}
 use Rattle.tool_output.specs.Outside.{Telling}
 use Rattle.step_runs.specs.Current.{Kept}
-use Rattle.at_stat.specs.declared.wait.StatResult.{StatResult}
+use Rattle.at_stat.specs.declared.session_loop.StatResult.{StatResult}
 use Rattle.at_stat.specs.WaitSessions.{ComesAfter, HasSeen, HasStopped, HasWaited, LooksAt, RestsBetween, StopsStatAfter, StopsWaiting, WaitAt}
 
 -- one more session, after a rest

@@ -12,14 +12,16 @@ replace-requires-clause-differ g c = λ same. temp_apart (sym c.account_temporar
 
 pub replace-requires-clause-durable : goal.replace-requires-clause-durable
 replace-requires-clause-durable g c = λ known.
-    subst (λ (name : List ℕ). IsDurableAt name (g.H.Host.world c.args.host.now).now.directory) (sym c.account_temporary_name.ensures) (c.requires.durable known)
+    subst (λ (name : List ℕ). IsDurableAt name (g.H.Host.world c.args.host.now).now.directory) (sym c.account_temporary_name.ensures)
+    (c.requires.durable known)
 
 pub returns-clause-files : goal.returns-clause-files
 returns-clause-files g c = λ known.
     let old = g.H.Host.world c.args.host.now in
     let new = g.H.Host.world c.replace.new.host in
     subst (λ temp. ChangesFiles (IsPlacing temp account_file c.args.bytes.now old.now.directory) old new) c.account_temporary_name.ensures
-    (subst (λ target. ChangesFiles (IsPlacing c.account_temporary_name.result target c.args.bytes.now old.now.directory) old new) c.account_name.ensures
+    (subst (λ target. ChangesFiles (IsPlacing c.account_temporary_name.result target c.args.bytes.now old.now.directory) old new)
+    c.account_name.ensures
     (c.replace.ensures.files known))
 
 pub returns-clause-placed : goal.returns-clause-placed
@@ -27,5 +29,6 @@ returns-clause-placed g c = λ known.
     let old = (g.H.Host.world c.args.host.now).now.directory in
     let new = (g.H.Host.world c.replace.new.host).now.directory in
     subst (λ temp. OnOk c.replace.result (IsPlaced temp account_file c.args.bytes.now old new)) c.account_temporary_name.ensures
-    (subst (λ target. OnOk c.replace.result (IsPlaced c.account_temporary_name.result target c.args.bytes.now old new)) c.account_name.ensures
+    (subst (λ target. OnOk c.replace.result (IsPlaced c.account_temporary_name.result target c.args.bytes.now old new))
+    c.account_name.ensures
     (c.replace.ensures.placed known))

@@ -9,12 +9,15 @@ returns-in-Ok-clause-accounts g c = record {
   images = session_images g.H.Host _ _ _ _ _ _ c.in-Ok.ensures.ends (λ first last did. search (rules, did));
   leaves = λ tells alone.
       put_leaves c.args.show g.O.Sink.tells (g.H.Host.world c.args.host.now) (g.H.Host.world c.in_command_session.new.host)
-      (sink_at (g.O.Sink.content c.args.out.now) (g.O.Sink.outlet c.args.out.now)) (sink_at (g.O.Sink.content c.put_whole.new.out) (g.O.Sink.outlet c.put_whole.new.out))
+      (sink_at (g.O.Sink.content c.args.out.now) (g.O.Sink.outlet c.args.out.now))
+      (sink_at (g.O.Sink.content c.put_whole.new.out) (g.O.Sink.outlet c.put_whole.new.out))
       c.in-Ok.text c.put_whole.result
       (subst (λ (of : List ℕ). PutsWhole g.O.Sink.tells of (sink_at (g.O.Sink.content c.args.out.now) (g.O.Sink.outlet c.args.out.now))
-      (sink_at (g.O.Sink.content c.put_whole.new.out) (g.O.Sink.outlet c.put_whole.new.out)) c.put_whole.result) c.as_slice.ensures c.put_whole.ensures.puts)
+      (sink_at (g.O.Sink.content c.put_whole.new.out) (g.O.Sink.outlet c.put_whole.new.out)) c.put_whole.result) c.as_slice.ensures
+      c.put_whole.ensures.puts)
       (subst (Ends c.args.show (g.H.Host.world c.args.host.now) (g.H.Host.world c.in_command_session.new.host)) c.in-Ok.is
-      (session_ends g.H.Host _ _ _ _ _ c.in_command_session.result c.in_command_session.ensures.ends c.args.show (λ first last did. search (rules, did)) tells alone));
+      (session_ends g.H.Host _ _ _ _ _ c.in_command_session.result c.in_command_session.ensures.ends c.args.show
+      (λ first last did. search (rules, did)) tells alone));
 }
 
 pub returns-in-Err-clause-accounts : goal.returns-in-Err-clause-accounts

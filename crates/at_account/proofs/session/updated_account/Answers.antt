@@ -2,7 +2,8 @@ use Rattle.at_account.proofs.session.updated_account.Goals as goal
 
 pub returns-in-Ok-clause-spelled : goal.returns-in-Ok-clause-spelled
 returns-in-Ok-clause-spelled g c =
-    c.in-Ok.ensures.spelled c.in_ok-account.ensures.spelled c.args.store.now.table c.last.ensures.sound c.rows.ensures.rows c.decided.ensures
+    c.in-Ok.ensures.spelled c.in_ok-account.ensures.spelled c.args.store.now.table c.last.ensures.sound
+    c.rows.ensures.rows c.decided.ensures
     (λ row has. (c.rows.ensures.ranges row has).named.letter)
 
 pub returns-in-Ok-clause-counts : goal.returns-in-Ok-clause-counts

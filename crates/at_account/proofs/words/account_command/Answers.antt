@@ -9,4 +9,5 @@ pub returns : goal.returns
 unfolding account_app
 returns c =
     let show = long_flag_rule (codes "show") in
-    made_with c.with_long_flag.result (app_of c.bare_command.result) account_app show c.with_long_flag.ensures (ap (with show) c.bare_command.ensures)
+    made_with c.with_long_flag.result (app_of c.bare_command.result) account_app show c.with_long_flag.ensures
+    (ap (with show) c.bare_command.ensures)

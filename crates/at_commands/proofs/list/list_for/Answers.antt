@@ -5,7 +5,7 @@ use Rattle.tool_output.specs.Whole.{PutsWhole}
 use Rattle.at_commands.proofs.AnswerLemmas.{listing_put, listing_stopped, listing_unzoned, puts_after_lock, puts_no_busy, puts_no_file_fault, puts_no_input_fault}
 use Rattle.at_commands.proofs.InSessionLemmas.{lists_of_session, no_output_of_session}
 use Rattle.at_commands.proofs.SessionLemmas.{no_input_of_spool, no_output_of_spool, quiet_none, risen_none}
-use Rattle.at_commands.proofs.UserLemmas.{zone_readable}
+use Rattle.command_rules.proofs.UserLemmas.{zone_readable}
 use Rattle.at_commands.proofs.list.list_for.Goals as goal
 
 pub returns-then-is_unreadable-clause-quiet : goal.returns-then-is_unreadable-clause-quiet
@@ -18,7 +18,8 @@ returns-then-is_unreadable-clause-ends g c =
     (sym c.is_unreadable.ensures ∙ c.if-is_unreadable.true)
 
 pub in_command_session-requires-clause-may : goal.in_command_session-requires-clause-may
-in_command_session-requires-clause-may g c = λ at inside. search (rules, zone_readable c.args.caller.now.zone (sym c.is_unreadable.ensures ∙ c.if-is_unreadable.false))
+in_command_session-requires-clause-may g c =
+    λ at inside. search (rules, zone_readable c.args.caller.now.zone (sym c.is_unreadable.ensures ∙ c.if-is_unreadable.false))
 
 pub returns-in-Err-clause-no_input_fault : goal.returns-in-Err-clause-no_input_fault
 returns-in-Err-clause-no_input_fault g c = no_input_of_spool c.in-Err.stopped
@@ -39,7 +40,8 @@ returns-in-Err-clause-ends g c =
 
 pub returns-in-Ok-clause-faults : goal.returns-in-Ok-clause-faults
 returns-in-Ok-clause-faults g c = risen_none g.H.Host _ _ c.put_whole.result
-    (puts_no_file_fault _ _ _ _ c.put_whole.result c.put_whole.ensures.puts) (puts_no_busy _ _ _ _ c.put_whole.result c.put_whole.ensures.puts)
+    (puts_no_file_fault _ _ _ _ c.put_whole.result c.put_whole.ensures.puts)
+    (puts_no_busy _ _ _ _ c.put_whole.result c.put_whole.ensures.puts)
     (λ stops. absurd (puts_after_lock _ _ _ _ c.put_whole.result c.put_whole.ensures.puts stops))
 
 pub returns-in-Ok-clause-no_input_fault : goal.returns-in-Ok-clause-no_input_fault
@@ -54,4 +56,5 @@ returns-in-Ok-clause-ends g c =
     (lists_of_session g.H.Host _ _ _ _ _ _ (request.List c.args.which.now) c.args.caller.now c.in-Ok.ensures.ends
     (λ first last did. search (rules, did, c.requires.user)))
     (subst (λ (of : List ℕ). PutsWhole g.O.Sink.tells of (sink_at (g.O.Sink.content c.args.out.now) (g.O.Sink.outlet c.args.out.now))
-    (sink_at (g.O.Sink.content c.put_whole.new.out) (g.O.Sink.outlet c.put_whole.new.out)) c.put_whole.result) c.as_slice.ensures c.put_whole.ensures.puts)
+    (sink_at (g.O.Sink.content c.put_whole.new.out) (g.O.Sink.outlet c.put_whole.new.out)) c.put_whole.result) c.as_slice.ensures
+    c.put_whole.ensures.puts)

@@ -20,11 +20,13 @@ pub returns-in_err-store-clause-lists : goal.returns-in_err-store-clause-lists
 returns-in_err-store-clause-lists g c = λ caller same same_zone.
     let p = err_from_is_err_and c.from_residual.result c.from_residual.ensures.1 in
     rw (p.1, p.2)
-    (listing_unopened g.H.Host.tells _ (request.List c.args.which.now) caller (g.H.Host.world c.args.host.now) (g.H.Host.world c.open_store.new.host)
+    (listing_unopened g.H.Host.tells _ (request.List c.args.which.now) caller (g.H.Host.world c.args.host.now)
+    (g.H.Host.world c.open_store.new.host)
     c.args.user.now c.in_err-store.field-0.0.cause same c.in_err-store.ensures.not_opened)
 
 pub returns-in-Some-clause-comes : goal.returns-in-Some-clause-comes
-returns-in-Some-clause-comes g c = rw c.refused.ensures (filter_comes c.args.user.now c.in_ok-store.store.table c.args.which.now c.in-Some.refusal c.in-Some.ensures)
+returns-in-Some-clause-comes g c =
+    rw c.refused.ensures (filter_comes c.args.user.now c.in_ok-store.store.table c.args.which.now c.in-Some.refusal c.in-Some.ensures)
 
 pub returns-in-Some-clause-no_output : goal.returns-in-Some-clause-no_output
 returns-in-Some-clause-no_output g c = rw c.refused.ensures tt
@@ -33,7 +35,8 @@ pub returns-in-Some-clause-lists : goal.returns-in-Some-clause-lists
 returns-in-Some-clause-lists g c = λ caller same same_zone.
     rw c.refused.ensures
     (listing_refused g.H.Host.tells c.args.which.now caller c.args.user.now c.args.zone.now same same_zone (g.H.Host.world c.args.host.now)
-    (g.H.Host.world c.open_store.new.host) (g.H.Host.world c.open_store.new.host) c.in_ok-store.store c.in_ok-store.ensures.opened c.in-Some.refusal c.in-Some.ensures
+    (g.H.Host.world c.open_store.new.host) (g.H.Host.world c.open_store.new.host) c.in_ok-store.store c.in_ok-store.ensures.opened
+    c.in-Some.refusal c.in-Some.ensures
     (λ known. refl))
 
 pub returns-clause-comes : goal.returns-clause-comes
@@ -45,5 +48,6 @@ returns-clause-no_output g c = memory_no_output c.listing_text_of.result c.listi
 pub returns-clause-lists : goal.returns-clause-lists
 returns-clause-lists g c = λ caller same same_zone.
     listing_of g.H.Host.tells c.args.which.now caller c.args.user.now c.args.zone.now same same_zone (g.H.Host.world c.args.host.now)
-    (g.H.Host.world c.open_store.new.host) (g.H.Host.world c.open_store.new.host) c.in_ok-store.store c.in_ok-store.ensures.opened c.in-None.ensures
+    (g.H.Host.world c.open_store.new.host) (g.H.Host.world c.open_store.new.host) c.in_ok-store.store
+    c.in_ok-store.ensures.opened c.in-None.ensures
     (λ known. refl) c.listing_text_of.result c.listing_text_of.ensures.is_listing c.listing_text_of.ensures.memory

@@ -15,7 +15,8 @@ returns-in_err-removals-clause-works g c = λ known table current.
 
 pub make_all-requires : goal.make_all-requires
 make_all-requires g c =
-    may_remove c.args.numbers.now c.as_slice.result.now (c.as_slice.ensures.value ∙ c.in_ok-removals.ensures) c.requires.inside c.requires.legal c.requires.current
+    may_remove c.args.numbers.now c.as_slice.result.now (c.as_slice.ensures.value ∙ c.in_ok-removals.ensures) c.requires.inside
+    c.requires.legal c.requires.current
 
 pub returns-in_err-store-clause-works : goal.returns-in_err-store-clause-works
 returns-in_err-store-clause-works g c = λ known table current.
@@ -32,7 +33,8 @@ returns-in_err-forgettings-clause-works g c = λ known table current.
     (c.as_slice.ensures.value ∙ c.in_ok-removals.ensures) c.in_ok-store.ensures)
 
 pub make_all-requires-2 : goal.make_all-requires-2
-make_all-requires-2 g c = may_forget c.as_slice-2.result.now (c.as_slice-2.ensures.value ∙ c.in_ok-forgettings.ensures) c.in_ok-store.ensures.inside.stays.inside
+make_all-requires-2 g c =
+    may_forget c.as_slice-2.result.now (c.as_slice-2.ensures.value ∙ c.in_ok-forgettings.ensures) c.in_ok-store.ensures.inside.stays.inside
     (λ known. (_, (c.in_ok-store.ensures.files known (c.requires.current known).0 (c.requires.current known).1).current))
 
 pub returns-in_err-make_all-clause-goes_on : goal.returns-in_err-make_all-clause-goes_on

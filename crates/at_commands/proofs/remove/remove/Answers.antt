@@ -13,25 +13,29 @@ returns-in-Some-clause-faults g c = rw c.cause_of_command.ensures c.in_command_s
 
 pub returns-in-Some-clause-no_input_fault : goal.returns-in-Some-clause-no_input_fault
 returns-in-Some-clause-no_input_fault g c = λ same.
-    no_input_in c.in_command_session.result (no_output_of_session g.H.Host _ _ _ _ _ c.in_command_session.result c.in_command_session.ensures.ends (λ first last did. search (rules, did)))
+    no_input_in c.in_command_session.result (no_output_of_session g.H.Host _ _ _ _ _ c.in_command_session.result
+    c.in_command_session.ensures.ends (λ first last did. search (rules, did)))
     (sym c.cause_of_command.ensures ∙ same)
 
 pub returns-in-Some-clause-no_output : goal.returns-in-Some-clause-no_output
 returns-in-Some-clause-no_output g c = λ same.
-    no_output_in c.in_command_session.result (no_output_of_session g.H.Host _ _ _ _ _ c.in_command_session.result c.in_command_session.ensures.ends (λ first last did. search (rules, did)))
+    no_output_in c.in_command_session.result (no_output_of_session g.H.Host _ _ _ _ _ c.in_command_session.result
+    c.in_command_session.ensures.ends (λ first last did. search (rules, did)))
     (sym c.cause_of_command.ensures ∙ same)
 
 pub returns-in-Some-clause-ends : goal.returns-in-Some-clause-ends
 returns-in-Some-clause-ends g c =
     let bytes : c.as_bytes.result.now ≡ c.args.caller.now.context.user = c.as_bytes.ensures.value ∙ c.as_str.ensures in
     rw c.cause_of_command.ensures
-    (removal_ends g.H.Host.tells g.H.Host.alone c.args.numbers.now c.args.caller.now (g.H.Host.world c.args.host.now) (g.H.Host.world c.in_command_session.new.host)
+    (removal_ends g.H.Host.tells g.H.Host.alone c.args.numbers.now c.args.caller.now (g.H.Host.world c.args.host.now)
+    (g.H.Host.world c.in_command_session.new.host)
     (cause_in c.in_command_session.result)
     (named_user c.as_bytes.result.now c.args.caller.now.context.user bytes (c.in-Some.ensures.valid.0 refl))
     (subst (λ (of : List ℕ). Carries g.H.Host.tells g.H.Host.alone (request.Remove of) c.args.caller.now lists_alone
     (g.H.Host.world c.args.host.now) (g.H.Host.world c.in_command_session.new.host) (cause_in c.in_command_session.result))
     c.as_slice-numbers.ensures.numbers
-    (carries_of_session g.H.Host _ _ _ _ _ c.in_command_session.result c.in_command_session.ensures.ends (request.Remove c.as_slice-numbers.result.now) c.args.caller.now
+    (carries_of_session g.H.Host _ _ _ _ _ c.in_command_session.result c.in_command_session.ensures.ends
+    (request.Remove c.as_slice-numbers.result.now) c.args.caller.now
     (λ first last did. search (rules, did, bytes, c.in-Some.ensures.value)))))
 
 pub returns-in-None-clause-quiet : goal.returns-in-None-clause-quiet

@@ -27,7 +27,8 @@ asked_by words named fault is asked = subst (λ (tool : Option (Tool × ℕ)). A
 
 pub serve_anew-requires-clause-turns : goal.serve_anew-requires-clause-turns
 serve_anew-requires-clause-turns g c =
-    has_turns (map string_bytes c.args.words.now) c.in-Daemon.limit c.in-Daemon.interval c.in-Daemon.once c.in-Daemon.turns (rw (c.in-Daemon.is, c.tool_of-named.ensures.tool) at c.in-Ok.ensures.asked)
+    has_turns (map string_bytes c.args.words.now) c.in-Daemon.limit c.in-Daemon.interval c.in-Daemon.once c.in-Daemon.turns
+    (rw (c.in-Daemon.is, c.tool_of-named.ensures.tool) at c.in-Ok.ensures.asked)
 
 pub returns-in-Err-clause-session : goal.returns-in-Err-clause-session
 returns-in-Err-clause-session g c =
@@ -38,7 +39,8 @@ returns-in-Err-clause-faults g c = rw c.of.ensures
     (words_risen c.in-Err.fault c.say_cause.result (rw c.cause_of_words.ensures at c.say_cause.ensures.same_or_memory) _ _ _)
 
 pub returns-in-Err-clause-made : goal.returns-in-Err-clause-made
-returns-in-Err-clause-made g c = record { readers = refl; contents = refl; inputs = read_never _; out = refl; err = c.say_cause.ensures.made_as; unread = λ other. refl }
+returns-in-Err-clause-made g c =
+    record { readers = refl; contents = refl; inputs = read_never _; out = refl; err = c.say_cause.ensures.made_as; unread = λ other. refl }
 
 pub returns-in-Err-clause-ends : goal.returns-in-Err-clause-ends
 returns-in-Err-clause-ends g c = rw c.of.ensures (λ unserved. record {
@@ -51,28 +53,38 @@ returns-in-Err-clause-ends g c = rw c.of.ensures (λ unserved. record {
   ends = ends_said (tool_name_of (map string_bytes c.args.words.now)) (request_of (map string_bytes c.args.words.now)) c.args.caller.now
       (telling g.H.Host.tells g.H.Host.alone g.R.Readings.tells g.I.Inputs.tells g.O.Sink.tells g.E.Sink.tells)
       (holding (g.H.Host.world c.args.host.now) (g.R.Readings.answers c.args.readings.now) (g.I.Inputs.contents c.args.inputs.now)
-      (sink_at (g.O.Sink.content c.args.out.now) (g.O.Sink.outlet c.args.out.now)) (sink_at (g.E.Sink.content c.args.err.now) (g.E.Sink.outlet c.args.err.now)))
+      (sink_at (g.O.Sink.content c.args.out.now) (g.O.Sink.outlet c.args.out.now))
+      (sink_at (g.E.Sink.content c.args.err.now) (g.E.Sink.outlet c.args.err.now)))
       (holding (g.H.Host.world c.args.host.now) (g.R.Readings.answers c.args.readings.now) (g.I.Inputs.contents c.args.inputs.now)
-      (sink_at (g.O.Sink.content c.args.out.now) (g.O.Sink.outlet c.args.out.now)) (sink_at (g.E.Sink.content c.say_cause.new.err) (g.E.Sink.outlet c.say_cause.new.err)))
+      (sink_at (g.O.Sink.content c.args.out.now) (g.O.Sink.outlet c.args.out.now))
+      (sink_at (g.E.Sink.content c.say_cause.new.err) (g.E.Sink.outlet c.say_cause.new.err)))
       (sink_at (g.E.Sink.content c.args.err.now) (g.E.Sink.outlet c.args.err.now))
       c.cause_of_words.result
       (rw c.cause_of_words.ensures (words_end (request_of (map string_bytes c.args.words.now)) c.args.caller.now
       (telling g.H.Host.tells g.H.Host.alone g.R.Readings.tells g.I.Inputs.tells g.O.Sink.tells g.E.Sink.tells)
       (holding (g.H.Host.world c.args.host.now) (g.R.Readings.answers c.args.readings.now) (g.I.Inputs.contents c.args.inputs.now)
-      (sink_at (g.O.Sink.content c.args.out.now) (g.O.Sink.outlet c.args.out.now)) (sink_at (g.E.Sink.content c.args.err.now) (g.E.Sink.outlet c.args.err.now)))
+      (sink_at (g.O.Sink.content c.args.out.now) (g.O.Sink.outlet c.args.out.now))
+      (sink_at (g.E.Sink.content c.args.err.now) (g.E.Sink.outlet c.args.err.now)))
       c.in-Err.fault (asked_by _ _ _ c.tool_of-named.ensures.tool c.in-Err.ensures.asked)))
       c.say_cause.result (rw (c.tool_name-in-Err.ensures, c.tool_of-named.ensures.tool) at c.say_cause.ensures.said);
 })
 
 pub returns-in-Err-clause-serves : goal.returns-in-Err-clause-serves
 returns-in-Err-clause-serves g c = rw c.of.ensures
-    (words_served (request_of (map string_bytes c.args.words.now)) c.in-Err.fault _ (asked_by _ _ _ c.tool_of-named.ensures.tool c.in-Err.ensures.asked) (λ limit interval once turns is wanting.
+    (words_served (request_of (map string_bytes c.args.words.now)) c.in-Err.fault _
+    (asked_by _ _ _ c.tool_of-named.ensures.tool c.in-Err.ensures.asked) (λ limit interval once turns is wanting.
     nothing_served (telling g.H.Host.tells g.H.Host.alone g.R.Readings.tells false g.O.Sink.tells g.E.Sink.tells) limit interval once turns
-    (λ daemon. serve_at (g.H.Host.session c.args.host.now) (g.H.Host.world c.args.host.now) daemon (g.R.Readings.answers c.args.readings.now) (g.R.Readings.readers c.args.readings.now))
-    (sink_at (g.O.Sink.content c.args.out.now) (g.O.Sink.outlet c.args.out.now)) (sink_at (g.E.Sink.content c.args.err.now) (g.E.Sink.outlet c.args.err.now))
+    (λ daemon. serve_at (g.H.Host.session c.args.host.now) (g.H.Host.world c.args.host.now) daemon
+    (g.R.Readings.answers c.args.readings.now) (g.R.Readings.readers c.args.readings.now))
+    (sink_at (g.O.Sink.content c.args.out.now) (g.O.Sink.outlet c.args.out.now))
+    (sink_at (g.E.Sink.content c.args.err.now) (g.E.Sink.outlet c.args.err.now))
     (sink_at (g.E.Sink.content c.say_cause.new.err) (g.E.Sink.outlet c.say_cause.new.err)) c.say_cause.result
-    (subst (λ (tool : List ℕ). IsSaid tool g.E.Sink.tells Memory (sink_at (g.E.Sink.content c.args.err.now) (g.E.Sink.outlet c.args.err.now))
-    (sink_at (g.E.Sink.content c.say_cause.new.err) (g.E.Sink.outlet c.say_cause.new.err)) c.say_cause.result) (daemon_named (map string_bytes c.args.words.now) limit interval once turns is)
-    (subst (λ (cause : Cause). IsSaid (tool_name_of (map string_bytes c.args.words.now)) g.E.Sink.tells cause (sink_at (g.E.Sink.content c.args.err.now) (g.E.Sink.outlet c.args.err.now))
+    (subst (λ (tool : List ℕ).
+    IsSaid tool g.E.Sink.tells Memory (sink_at (g.E.Sink.content c.args.err.now) (g.E.Sink.outlet c.args.err.now))
     (sink_at (g.E.Sink.content c.say_cause.new.err) (g.E.Sink.outlet c.say_cause.new.err)) c.say_cause.result)
-    (c.cause_of_words.ensures ∙ ap words_cause wanting) (rw (c.tool_name-in-Err.ensures, c.tool_of-named.ensures.tool) at c.say_cause.ensures.said)))))
+    (daemon_named (map string_bytes c.args.words.now) limit interval once turns is)
+    (subst (λ (cause : Cause). IsSaid (tool_name_of (map string_bytes c.args.words.now)) g.E.Sink.tells cause
+    (sink_at (g.E.Sink.content c.args.err.now) (g.E.Sink.outlet c.args.err.now))
+    (sink_at (g.E.Sink.content c.say_cause.new.err) (g.E.Sink.outlet c.say_cause.new.err)) c.say_cause.result)
+    (c.cause_of_words.ensures ∙ ap words_cause wanting)
+    (rw (c.tool_name-in-Err.ensures, c.tool_of-named.ensures.tool) at c.say_cause.ensures.said)))))

@@ -50,7 +50,8 @@ returns-in-List-clause-faults g c = rw c.in-List.is (record {
 
 pub returns-in-List-clause-ends : goal.returns-in-List-clause-ends
 returns-in-List-clause-ends g c =
-    let ends = c.list_jobs.ensures.ends g.R.Readings.tells g.I.Inputs.tells g.E.Sink.tells (g.R.Readings.answers c.args.readings.now) (g.I.Inputs.contents c.args.inputs.now)
+    let ends = c.list_jobs.ensures.ends g.R.Readings.tells g.I.Inputs.tells g.E.Sink.tells (g.R.Readings.answers c.args.readings.now)
+    (g.I.Inputs.contents c.args.inputs.now)
     (sink_at (g.E.Sink.content c.args.err.now) (g.E.Sink.outlet c.args.err.now)) in
     rw c.in-List.is (record {
       left = c.list_jobs.ensures.quiet.left;
@@ -63,7 +64,8 @@ returns-in-List-clause-ends g c =
     })
 
 pub returns-in-List-clause-made : goal.returns-in-List-clause-made
-returns-in-List-clause-made g c = record { readers = refl; contents = refl; inputs = read_never _; out = c.list_jobs.ensures.made_as; err = refl; unread = λ other. refl }
+returns-in-List-clause-made g c =
+    record { readers = refl; contents = refl; inputs = read_never _; out = c.list_jobs.ensures.made_as; err = refl; unread = λ other. refl }
 
 pub returns-in-Remove-clause-faults : goal.returns-in-Remove-clause-faults
 returns-in-Remove-clause-faults g c = rw c.in-Remove.is (record {
@@ -89,7 +91,8 @@ returns-in-Remove-clause-ends g c =
     })
 
 pub returns-in-Remove-clause-made : goal.returns-in-Remove-clause-made
-returns-in-Remove-clause-made g c = record { readers = refl; contents = refl; inputs = read_never _; out = refl; err = refl; unread = λ other. refl }
+returns-in-Remove-clause-made g c =
+    record { readers = refl; contents = refl; inputs = read_never _; out = refl; err = refl; unread = λ other. refl }
 
 pub returns-in-Show-clause-faults : goal.returns-in-Show-clause-faults
 returns-in-Show-clause-faults g c = rw c.in-Show.is (record {
@@ -101,7 +104,8 @@ returns-in-Show-clause-faults g c = rw c.in-Show.is (record {
 
 pub returns-in-Show-clause-ends : goal.returns-in-Show-clause-ends
 returns-in-Show-clause-ends g c =
-    let ends = c.show.ensures.ends g.R.Readings.tells g.I.Inputs.tells g.E.Sink.tells (g.R.Readings.answers c.args.readings.now) (g.I.Inputs.contents c.args.inputs.now)
+    let ends = c.show.ensures.ends g.R.Readings.tells g.I.Inputs.tells g.E.Sink.tells (g.R.Readings.answers c.args.readings.now)
+    (g.I.Inputs.contents c.args.inputs.now)
     (sink_at (g.E.Sink.content c.args.err.now) (g.E.Sink.outlet c.args.err.now)) in
     rw c.in-Show.is (record {
       left = c.show.ensures.quiet.left;
@@ -114,13 +118,15 @@ returns-in-Show-clause-ends g c =
     })
 
 pub returns-in-Show-clause-made : goal.returns-in-Show-clause-made
-returns-in-Show-clause-made g c = record { readers = refl; contents = refl; inputs = read_never _; out = c.show.ensures.made_as; err = refl; unread = λ other. refl }
+returns-in-Show-clause-made g c =
+    record { readers = refl; contents = refl; inputs = read_never _; out = c.show.ensures.made_as; err = refl; unread = λ other. refl }
 
 pub unreachable-requires : goal.unreachable-requires
 unreachable-requires g c = rw c.in-Daemon.is at c.requires.tool
 
 pub returns-in-Make-clause-faults : goal.returns-in-Make-clause-faults
-returns-in-Make-clause-faults g c = record { file_fault = λ same. (cc); busy = λ same. (cc); input_fault = λ same. (cc); output_fault = λ same. (cc) }
+returns-in-Make-clause-faults g c =
+    record { file_fault = λ same. (cc); busy = λ same. (cc); input_fault = λ same. (cc); output_fault = λ same. (cc) }
 
 pub returns-in-Make-clause-ends : goal.returns-in-Make-clause-ends
 returns-in-Make-clause-ends g c =
@@ -128,9 +134,11 @@ returns-in-Make-clause-ends g c =
     rw c.in-Make.is (record {
       left = quiet.left;
       quiet = quiet.goes_on;
-      ends = make_ends _ c.args.caller.now (telling g.H.Host.tells g.H.Host.alone g.R.Readings.tells g.I.Inputs.tells g.O.Sink.tells g.E.Sink.tells)
+      ends = make_ends _ c.args.caller.now
+          (telling g.H.Host.tells g.H.Host.alone g.R.Readings.tells g.I.Inputs.tells g.O.Sink.tells g.E.Sink.tells)
           (holding (g.H.Host.world c.args.host.now) (g.R.Readings.answers c.args.readings.now) (g.I.Inputs.contents c.args.inputs.now)
-          (sink_at (g.O.Sink.content c.args.out.now) (g.O.Sink.outlet c.args.out.now)) (sink_at (g.E.Sink.content c.args.err.now) (g.E.Sink.outlet c.args.err.now)));
+          (sink_at (g.O.Sink.content c.args.out.now) (g.O.Sink.outlet c.args.out.now))
+          (sink_at (g.E.Sink.content c.args.err.now) (g.E.Sink.outlet c.args.err.now)));
       not_running = λ same. (cc);
       readers = refl;
       unasked = λ fault is. (cc);
@@ -138,4 +146,5 @@ returns-in-Make-clause-ends g c =
     })
 
 pub returns-in-Make-clause-made : goal.returns-in-Make-clause-made
-returns-in-Make-clause-made g c = record { readers = refl; contents = refl; inputs = read_never _; out = refl; err = refl; unread = λ other. refl }
+returns-in-Make-clause-made g c =
+    record { readers = refl; contents = refl; inputs = read_never _; out = refl; err = refl; unread = λ other. refl }

@@ -19,7 +19,8 @@ returns-in_err-store-clause-stores g c = λ caller same mail file when now time 
     let p = err_from_is_err_and c.from_residual.result c.from_residual.ensures.1 in
     rw (p.1, p.2)
     (store_not_opened g.H.Host.tells caller c.args.queue c.args.minute c.args.script.now mail file when now time commands is_job same_minute
-    c.args.user.now c.in_err-store.field-0.0.cause (g.H.Host.world c.args.host.now) (g.H.Host.world c.open_store.new.host) same c.in_err-store.ensures.not_opened)
+    c.args.user.now c.in_err-store.field-0.0.cause (g.H.Host.world c.args.host.now) (g.H.Host.world c.open_store.new.host) same
+    c.in_err-store.ensures.not_opened)
 
 pub submit-requires-clause-current : goal.submit-requires-clause-current
 submit-requires-clause-current g c = λ known. (c.in_ok-store.ensures.opened.table, (c.in_ok-store.ensures.opened.recovered known).current)
@@ -33,7 +34,8 @@ pub returns-in_err-number-clause-goes_on : goal.returns-in_err-number-clause-goe
 returns-in_err-number-clause-goes_on g c = λ known.
     goes_on_then (g.H.Host.world c.args.host.now) (g.H.Host.world c.open_store.new.host) (g.H.Host.world c.submit.new.host)
     (c.in_ok-store.ensures.goes_on known)
-    (changes_go_on _ _ _ (c.in_err-number.ensures.files known c.in_ok-store.ensures.opened.table (c.in_ok-store.ensures.opened.recovered known).current).files)
+    (changes_go_on _ _ _
+    (c.in_err-number.ensures.files known c.in_ok-store.ensures.opened.table (c.in_ok-store.ensures.opened.recovered known).current).files)
 
 pub returns-in_err-number-clause-stores : goal.returns-in_err-number-clause-stores
 returns-in_err-number-clause-stores g c = λ caller same mail file when now time commands is_job same_minute.
@@ -41,7 +43,8 @@ returns-in_err-number-clause-stores g c = λ caller same mail file when now time
     rw (p.1, p.2)
     (store_failed g.H.Host.tells caller c.args.queue c.args.minute c.args.script.now mail file when now time commands is_job same_minute
     (g.H.Host.world c.args.host.now) (g.H.Host.world c.open_store.new.host) (g.H.Host.world c.submit.new.host) c.in_ok-store.store
-    (subst (λ (user : List ℕ). IsStoreOpened g.H.Host.tells user (g.H.Host.world c.args.host.now) (g.H.Host.world c.open_store.new.host) c.in_ok-store.store) (sym same) c.in_ok-store.ensures.opened)
+    (subst (λ (user : List ℕ). IsStoreOpened g.H.Host.tells user (g.H.Host.world c.args.host.now) (g.H.Host.world c.open_store.new.host)
+    c.in_ok-store.store) (sym same) c.in_ok-store.ensures.opened)
     c.in_err-number.field-0.0 c.in_err-number.ensures.answer
     (λ refused known. elim refused [
       | inl full ↦ ap g.H.Host.world (c.in_err-number.ensures.queue_full (ap (λ (fault : StoreFault). Err fault) full))
@@ -53,13 +56,15 @@ pub returns-clause-goes_on : goal.returns-clause-goes_on
 returns-clause-goes_on g c = λ known.
     goes_on_then (g.H.Host.world c.args.host.now) (g.H.Host.world c.open_store.new.host) (g.H.Host.world c.submit.new.host)
     (c.in_ok-store.ensures.goes_on known)
-    (changes_go_on _ _ _ (c.in_ok-number.ensures.files known c.in_ok-store.ensures.opened.table (c.in_ok-store.ensures.opened.recovered known).current).files)
+    (changes_go_on _ _ _
+    (c.in_ok-number.ensures.files known c.in_ok-store.ensures.opened.table (c.in_ok-store.ensures.opened.recovered known).current).files)
 
 pub returns-clause-stores : goal.returns-clause-stores
 returns-clause-stores g c = λ caller same mail file when now time commands is_job same_minute.
     stored g.H.Host.tells caller c.args.queue c.args.minute c.args.script.now mail file when now time commands is_job same_minute
     (g.H.Host.world c.args.host.now) (g.H.Host.world c.open_store.new.host) (g.H.Host.world c.submit.new.host) c.in_ok-store.store
-    (subst (λ (user : List ℕ). IsStoreOpened g.H.Host.tells user (g.H.Host.world c.args.host.now) (g.H.Host.world c.open_store.new.host) c.in_ok-store.store) (sym same) c.in_ok-store.ensures.opened)
+    (subst (λ (user : List ℕ). IsStoreOpened g.H.Host.tells user (g.H.Host.world c.args.host.now) (g.H.Host.world c.open_store.new.host)
+    c.in_ok-store.store) (sym same) c.in_ok-store.ensures.opened)
     c.in_ok-number.field-0-0 c.in_ok-number.number c.in_ok-number.ensures.answer c.in_ok-number.ensures.files
 
 pub returns-in_err-store-clause-no_output : goal.returns-in_err-store-clause-no_output

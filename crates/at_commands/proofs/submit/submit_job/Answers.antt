@@ -27,7 +27,8 @@ returns-in-Err-clause-input_fault g c = λ same. c.in-Err.ensures.cause.rose (ap
 
 pub returns-in-Err-clause-submits : goal.returns-in-Err-clause-submits
 returns-in-Err-clause-submits g c =
-    submission_stopped (tells_of g.H.Host.tells g.H.Host.alone g.R.Readings.tells g.I.Inputs.tells g.E.Sink.tells) c.args.queue c.args.mail c.args.file.now c.args.when.now c.args.caller.now
+    submission_stopped (tells_of g.H.Host.tells g.H.Host.alone g.R.Readings.tells g.I.Inputs.tells g.E.Sink.tells) c.args.queue c.args.mail
+    c.args.file.now c.args.when.now c.args.caller.now
     (held_by (g.H.Host.world c.args.host.now) (g.R.Readings.answers c.args.readings.now) (g.I.Inputs.contents c.args.inputs.now)
     (sink_at (g.E.Sink.content c.args.err.now) (g.E.Sink.outlet c.args.err.now)))
     (held_by (g.H.Host.world c.args.host.now) (g.R.Readings.answers c.prepare.new.readings) (g.I.Inputs.contents c.prepare.new.inputs)
@@ -36,7 +37,8 @@ returns-in-Err-clause-submits g c =
 
 pub store_and_say-requires-clause-user : goal.store_and_say-requires-clause-user
 store_and_say-requires-clause-user g c =
-    prepared_named (tells_of g.H.Host.tells g.H.Host.alone g.R.Readings.tells g.I.Inputs.tells g.E.Sink.tells) c.args.queue c.args.mail c.args.file.now c.args.when.now c.args.caller.now
+    prepared_named (tells_of g.H.Host.tells g.H.Host.alone g.R.Readings.tells g.I.Inputs.tells g.E.Sink.tells) c.args.queue c.args.mail
+    c.args.file.now c.args.when.now c.args.caller.now
     (held_by (g.H.Host.world c.args.host.now) (g.R.Readings.answers c.args.readings.now) (g.I.Inputs.contents c.args.inputs.now)
     (sink_at (g.E.Sink.content c.args.err.now) (g.E.Sink.outlet c.args.err.now)))
     (held_by (g.H.Host.world c.args.host.now) (g.R.Readings.answers c.prepare.new.readings) (g.I.Inputs.contents c.prepare.new.inputs)
@@ -45,7 +47,8 @@ store_and_say-requires-clause-user g c =
 
 pub store_and_say-requires-clause-zone : goal.store_and_say-requires-clause-zone
 store_and_say-requires-clause-zone g c =
-    prepared_zoned (tells_of g.H.Host.tells g.H.Host.alone g.R.Readings.tells g.I.Inputs.tells g.E.Sink.tells) c.args.queue c.args.mail c.args.file.now c.args.when.now c.args.caller.now
+    prepared_zoned (tells_of g.H.Host.tells g.H.Host.alone g.R.Readings.tells g.I.Inputs.tells g.E.Sink.tells) c.args.queue c.args.mail
+    c.args.file.now c.args.when.now c.args.caller.now
     (held_by (g.H.Host.world c.args.host.now) (g.R.Readings.answers c.args.readings.now) (g.I.Inputs.contents c.args.inputs.now)
     (sink_at (g.E.Sink.content c.args.err.now) (g.E.Sink.outlet c.args.err.now)))
     (held_by (g.H.Host.world c.args.host.now) (g.R.Readings.answers c.prepare.new.readings) (g.I.Inputs.contents c.prepare.new.inputs)
@@ -54,7 +57,8 @@ store_and_say-requires-clause-zone g c =
 
 pub store_and_say-requires-clause-header : goal.store_and_say-requires-clause-header
 store_and_say-requires-clause-header g c =
-    prepared_header (tells_of g.H.Host.tells g.H.Host.alone g.R.Readings.tells g.I.Inputs.tells g.E.Sink.tells) c.args.queue c.args.mail c.args.file.now c.args.when.now c.args.caller.now
+    prepared_header (tells_of g.H.Host.tells g.H.Host.alone g.R.Readings.tells g.I.Inputs.tells g.E.Sink.tells) c.args.queue c.args.mail
+    c.args.file.now c.args.when.now c.args.caller.now
     (held_by (g.H.Host.world c.args.host.now) (g.R.Readings.answers c.args.readings.now) (g.I.Inputs.contents c.args.inputs.now)
     (sink_at (g.E.Sink.content c.args.err.now) (g.E.Sink.outlet c.args.err.now)))
     (held_by (g.H.Host.world c.args.host.now) (g.R.Readings.answers c.prepare.new.readings) (g.I.Inputs.contents c.prepare.new.inputs)
@@ -66,9 +70,11 @@ returns-in-Ok-clause-input_fault g c = λ same. absurd (c.store_and_say.ensures.
 
 pub returns-in-Ok-clause-submits : goal.returns-in-Ok-clause-submits
 returns-in-Ok-clause-submits g c =
-    submission_answered (tells_of g.H.Host.tells g.H.Host.alone g.R.Readings.tells g.I.Inputs.tells g.E.Sink.tells) c.args.queue c.args.mail c.args.file.now c.args.when.now c.args.caller.now
+    submission_answered (tells_of g.H.Host.tells g.H.Host.alone g.R.Readings.tells g.I.Inputs.tells g.E.Sink.tells) c.args.queue c.args.mail
+    c.args.file.now c.args.when.now c.args.caller.now
     (held_by (g.H.Host.world c.args.host.now) (g.R.Readings.answers c.args.readings.now) (g.I.Inputs.contents c.args.inputs.now)
     (sink_at (g.E.Sink.content c.args.err.now) (g.E.Sink.outlet c.args.err.now)))
-    (held_by (g.H.Host.world c.store_and_say.new.host) (g.R.Readings.answers c.prepare.new.readings) (g.I.Inputs.contents c.prepare.new.inputs)
+    (held_by (g.H.Host.world c.store_and_say.new.host) (g.R.Readings.answers c.prepare.new.readings)
+    (g.I.Inputs.contents c.prepare.new.inputs)
     (sink_at (g.E.Sink.content c.store_and_say.new.err) (g.E.Sink.outlet c.store_and_say.new.err)))
     c.in-Ok.submission (rw c.path_of.ensures at c.in-Ok.ensures.prepares) c.store_and_say.result c.store_and_say.ensures.answers

@@ -58,5 +58,14 @@ returns-clause-counts c =
     counted (memory_session c.args.host.now) (memory_session c.recover.new.host) (memory_world c.args.host.now)
     (memory_world c.recover.new.host) c.in_ok-store.store (c.in_ok-store.ensures.recovered refl)
     c.rows-rows.result.now c.rows-rows.ensures.rows c.decided-decided.result.now c.decided-decided.ensures
-    (record { last = c.last.result; pending = c.waiting.result; running = c.running.result; removed = c.removed.result; finished = c.finished.result; not_started = c.not_started.result; interrupted = c.interrupted_count.result })
-    c.last.ensures.last c.waiting.ensures c.running.ensures c.removed.ensures c.finished.ensures c.not_started.ensures c.interrupted_count.ensures
+    (record {
+      last = c.last.result;
+      pending = c.waiting.result;
+      running = c.running.result;
+      removed = c.removed.result;
+      finished = c.finished.result;
+      not_started = c.not_started.result;
+      interrupted = c.interrupted_count.result;
+    })
+    c.last.ensures.last c.waiting.ensures c.running.ensures c.removed.ensures c.finished.ensures c.not_started.ensures
+    c.interrupted_count.ensures

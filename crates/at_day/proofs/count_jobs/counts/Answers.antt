@@ -15,12 +15,14 @@ returns-in-Ok c =
 pub returns-in-Err-Taken : goal.returns-in-Err-Taken
 returns-in-Err-Taken c =
     let refused = c.in-Err-Taken.ensures.ends.refused in
-    not_entered c.args.host.now c.in_session.new.host _ refused.left (refused.quiet.alone refl refl) (inr (refused.taken c.in-Err-Taken.field-0-is))
+    not_entered c.args.host.now c.in_session.new.host _ refused.left (refused.quiet.alone refl refl)
+    (inr (refused.taken c.in-Err-Taken.field-0-is))
 
 pub returns-in-Err-Failed : goal.returns-in-Err-Failed
 returns-in-Err-Failed c =
     let refused = c.in-Err-Failed.ensures.ends.refused in
-    not_entered c.args.host.now c.in_session.new.host _ refused.left (refused.quiet.alone refl refl) (inl (refused.failed c.in-Err-Failed.field-0-is))
+    not_entered c.args.host.now c.in_session.new.host _ refused.left (refused.quiet.alone refl refl)
+    (inl (refused.failed c.in-Err-Failed.field-0-is))
 
 pub returns-in-Err-Memory : goal.returns-in-Err-Memory
 returns-in-Err-Memory c =

@@ -4,7 +4,8 @@ use Rattle.at_day.proofs.made_event.made_event.Goals as goal
 
 pub returns-then-number-eq0 : goal.returns-then-number-eq0
 returns-then-number-eq0 c = as_made _ _ _
-    (command_is c.args.number _ _ _ _ c.in_ok-at_now.ensures refl ∙ sym (made_now c.args.number c.if-number-eq0.true)) c.submission_event.ensures
+    (command_is c.args.number _ _ _ _ c.in_ok-at_now.ensures refl ∙ sym (made_now c.args.number c.if-number-eq0.true))
+    c.submission_event.ensures
 
 pub returns-then-number-eq1 : goal.returns-then-number-eq1
 returns-then-number-eq1 c = as_made _ _ _
@@ -21,7 +22,8 @@ returns-then-number-eq3 c = c.turn_event.ensures ∙ sym (made_turn c.args.numbe
 
 pub returns-then-number-eq4 : goal.returns-then-number-eq4
 returns-then-number-eq4 c = as_made _ _ _
-    (command_is c.args.number _ _ _ _ c.in_ok-one_word-2.ensures c.empty_input.ensures ∙ sym (made_listing c.args.number c.if-number-eq4.true))
+    (command_is c.args.number _ _ _ _ c.in_ok-one_word-2.ensures c.empty_input.ensures
+    ∙ sym (made_listing c.args.number c.if-number-eq4.true))
     c.command_event.ensures
 
 pub returns-then-number-eq5 : goal.returns-then-number-eq5

@@ -13,7 +13,8 @@ events_asked-requires g c = subst IsDayAsked (sym c.in-Ok.ensures.asked) (day_as
 
 pub put_day-requires : goal.put_day-requires
 put_day-requires g c =
-    subst IsDayRequest c.events_asked.ensures (subst IsDayAsked (sym c.in-Ok.ensures.asked) (day_asked (map string_bytes c.args.words.now) c.requires))
+    subst IsDayRequest c.events_asked.ensures
+    (subst IsDayAsked (sym c.in-Ok.ensures.asked) (day_asked (map string_bytes c.args.words.now) c.requires))
 
 pub returns-in-Ok-clause-day : goal.returns-in-Ok-clause-day
 returns-in-Ok-clause-day g c =
@@ -21,7 +22,8 @@ returns-in-Ok-clause-day g c =
     let new = sink_at (g.O.Sink.content c.put_day.new.out) (g.O.Sink.outlet c.put_day.new.out) in
     ends_asked g.O.Sink.tells (request_of (map string_bytes c.args.words.now)) c.in-Ok.asked c.events_asked.result old new
     c.cause_of_put.result c.in-Ok.ensures.asked c.events_asked.ensures
-    (subst (λ (cause : Cause). EndsMade g.O.Sink.tells c.events_asked.result old new cause) (sym c.cause_of_put.ensures) c.put_day.ensures.puts)
+    (subst (λ (cause : Cause). EndsMade g.O.Sink.tells c.events_asked.result old new cause)
+    (sym c.cause_of_put.ensures) c.put_day.ensures.puts)
 
 pub returns-in-Err-clause-day : goal.returns-in-Err-clause-day
 returns-in-Err-clause-day g c = rw c.cause_of_words.ensures

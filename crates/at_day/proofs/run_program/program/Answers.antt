@@ -50,14 +50,16 @@ returns-then-asks_for_day-clause-ends g c = λ unserved. record {
       (sink_at (g.O.Sink.content c.args.out.now) (g.O.Sink.outlet c.args.out.now))
       (sink_at (g.O.Sink.content c.answer_day.new.out) (g.O.Sink.outlet c.answer_day.new.out))
       (request_of (map string_bytes c.args.words.now)) c.answer_day.result.cause cause.StillRunning c.answer_day.ensures.day (λ none. none);
-  ends = λ other. absurd (one_answer (asks_for_day (map string_bytes c.args.words.now)) (sym c.asks_for_day.ensures ∙ c.if-asks_for_day.true) other);
+  ends = λ other.
+      absurd (one_answer (asks_for_day (map string_bytes c.args.words.now)) (sym c.asks_for_day.ensures ∙ c.if-asks_for_day.true) other);
   readers = refl;
   unasked = λ fault is. refl;
   before_lock = λ stops. refl;
 }
 
 pub returns-then-asks_for_day-clause-serves : goal.returns-then-asks_for_day-clause-serves
-returns-then-asks_for_day-clause-serves g c = no_day_served (request_of (map string_bytes c.args.words.now)) _ (day_asked (map string_bytes c.args.words.now) (sym c.asks_for_day.ensures ∙ c.if-asks_for_day.true))
+returns-then-asks_for_day-clause-serves g c = no_day_served (request_of (map string_bytes c.args.words.now)) _
+    (day_asked (map string_bytes c.args.words.now) (sym c.asks_for_day.ensures ∙ c.if-asks_for_day.true))
 
 pub returns-then-asks_for_day-clause-day : goal.returns-then-asks_for_day-clause-day
 returns-then-asks_for_day-clause-day g c = λ is. record {
@@ -79,9 +81,18 @@ returns-then-asks_for_day-clause-made g c = record {
 }
 
 pub returns-clause-day : goal.returns-clause-day
-returns-clause-day g c = λ is. absurd (one_answer (asks_for_day (map string_bytes c.args.words.now)) is (sym c.asks_for_day.ensures ∙ c.if-asks_for_day.false))
+returns-clause-day g c =
+    λ is. absurd (one_answer (asks_for_day (map string_bytes c.args.words.now)) is (sym c.asks_for_day.ensures ∙ c.if-asks_for_day.false))
 
 pub returns-clause-ends : goal.returns-clause-ends
 returns-clause-ends g c = λ unserved.
     let ends = c.command.ensures.ends unserved in
-    record { left = ends.left; quiet = ends.quiet; not_running = ends.not_running; ends = λ other. ends.ends; readers = ends.readers; unasked = ends.unasked; before_lock = ends.before_lock }
+    record {
+      left = ends.left;
+      quiet = ends.quiet;
+      not_running = ends.not_running;
+      ends = λ other. ends.ends;
+      readers = ends.readers;
+      unasked = ends.unasked;
+      before_lock = ends.before_lock;
+    }

@@ -17,7 +17,8 @@ returns-clause-given c =
     let texts : List (List ℕ) = map string_bytes c.as_slice-words.result.now in
     let bytes : List ℕ = c.as_slice-bytes.result.now in
     let unserved : IsNotServed (request_of texts) =
-    ends_alone texts (subst (λ (of : List (List ℕ)). is_day_tool (tool_of_words of) ≡ true) (sym c.as_slice-words.ensures) c.requires.tool) in
+    ends_alone texts
+    (subst (λ (of : List (List ℕ)). is_day_tool (tool_of_words of) ≡ true) (sym c.as_slice-words.ensures) c.requires.tool) in
     let fits : FitsSigned w64 c.args.now = search rules in
     let e = c.command.ensures in
     given_as c.args.words.now texts c.args.caller.now c.args.input.now bytes c.args.now c.command.result

@@ -9,4 +9,5 @@ pub returns : goal.returns
 unfolding trim_app
 returns c =
     let trim = long_flag_rule (codes "trim") in
-    made_with c.with_long_flag.result (app_of c.bare_command.result) trim_app trim c.with_long_flag.ensures (ap (with trim) c.bare_command.ensures)
+    made_with c.with_long_flag.result (app_of c.bare_command.result) trim_app trim c.with_long_flag.ensures
+    (ap (with trim) c.bare_command.ensures)

@@ -11,14 +11,18 @@ unfolding clap_on_literals bare_app post_app
 parsed-requires c = ap is_simple_and_free c.in_ok-command.ensures
 
 pub returns-then-is_empty-clause-asked : goal.returns-then-is_empty-clause-asked
-returns-then-is_empty-clause-asked c = sym (ap post_asked (no_words string_bytes c.args.words.now (sym c.is_empty.ensures ∙ c.if-is_empty.true)))
+returns-then-is_empty-clause-asked c =
+    sym (ap post_asked (no_words string_bytes c.args.words.now (sym c.is_empty.ensures ∙ c.if-is_empty.true)))
 
 pub returns-in_err-matches-clause-asked : goal.returns-in_err-matches-clause-asked
 returns-in_err-matches-clause-asked c =
     with_name post_app matches_asked string_bytes c.args.words.now _ (sym c.is_empty.ensures ∙ c.if-is_empty.false)
-    (asks_fails post_app matches_asked (map string_bytes c.args.words.now) _ c.in_ok-command.ensures _ c.from_residual-in_err-matches.result c.in_err-matches.ensures c.from_residual-in_err-matches.ensures.1)
+    (asks_fails post_app matches_asked (map string_bytes c.args.words.now) _ c.in_ok-command.ensures _ c.from_residual-in_err-matches.result
+    c.in_err-matches.ensures c.from_residual-in_err-matches.ensures.1)
 
 pub returns-clause-asked : goal.returns-clause-asked
 returns-clause-asked c =
-    with_name post_app matches_asked string_bytes c.args.words.now c.request_of_matches.result (sym c.is_empty.ensures ∙ c.if-is_empty.false)
-    (asks_taken post_app matches_asked (map string_bytes c.args.words.now) _ c.in_ok-command.ensures c.in_ok-matches.matches c.request_of_matches.result c.in_ok-matches.ensures c.request_of_matches.ensures.asked)
+    with_name post_app matches_asked string_bytes c.args.words.now c.request_of_matches.result
+    (sym c.is_empty.ensures ∙ c.if-is_empty.false)
+    (asks_taken post_app matches_asked (map string_bytes c.args.words.now) _ c.in_ok-command.ensures c.in_ok-matches.matches
+    c.request_of_matches.result c.in_ok-matches.ensures c.request_of_matches.ensures.asked)

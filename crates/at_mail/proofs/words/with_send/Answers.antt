@@ -7,4 +7,5 @@ use Rattle.at_mail.proofs.words.with_send.Goals as goal
 pub returns : goal.returns
 returns c =
     let send = long_rule (codes "send") in
-    made_with c.with_long.result (app_of c.bare_command.result) (with_rule (bare_app (codes "atpost")) send) send c.with_long.ensures (ap (with send) c.bare_command.ensures)
+    made_with c.with_long.result (app_of c.bare_command.result) (with_rule (bare_app (codes "atpost")) send) send c.with_long.ensures
+    (ap (with send) c.bare_command.ensures)

@@ -9,5 +9,6 @@ use Rattle.at_stat.proofs.awaited.seen_numbers.Goals as goal
 
 pub returns : goal.returns
 returns c =
-    if_ok c.numbers_of_states.result _ _ (λ numbers is. is ∙ ap (λ (rows : List Row). row_numbers (filter (λ row. may_see c.args.user.now row && is_in_queue c.args.queue row) rows))
+    if_ok c.numbers_of_states.result _ _ (λ numbers is. is
+    ∙ ap (λ (rows : List Row). row_numbers (filter (λ row. may_see c.args.user.now row && is_in_queue c.args.queue row) rows))
     (sym (rows_listed c.args.store.now.table c.rows.result.now c.rows.ensures.rows))) c.numbers_of_states.ensures

@@ -20,7 +20,8 @@ returns c =
     let moved = c.sort_rows.new.rows.items in
     let test : Row → Bool = λ row. may_see c.args.user.now row && is_in_queue c.args.queue row in
     let listed : c.in_ok-rows.rows.items ≡ filter test (live_rows c.args.store.now.table) =
-    c.in_ok-rows.ensures ∙ ap (λ (rows : List Row). filter test rows) (sym (rows_listed c.args.store.now.table c.rows.result.now c.rows.ensures.rows)) in
+    c.in_ok-rows.ensures
+    ∙ ap (λ (rows : List Row). filter test rows) (sym (rows_listed c.args.store.now.table c.rows.result.now c.rows.ensures.rows)) in
     if_ok c.numbers_of_rows.result _ _ (λ numbers is. record {
       rows = moved;
       same = subst (λ (seen : List Row). IsPermutation seen moved) listed c.sort_rows.ensures.same;

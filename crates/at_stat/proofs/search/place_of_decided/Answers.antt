@@ -8,6 +8,8 @@ use Rattle.at_stat.proofs.search.place_of_decided.Goals as goal
 
 pub returns-clause-place : goal.returns-clause-place
 returns-clause-place c =
-    let parted = IsPartitionedBy-ltb (λ (done : Decided). done.number) c.args.decided.now c.args.number (rises_by_number decided_entry c.args.decided.now (test_from _ c.requires)) in
+    let parted = IsPartitionedBy-ltb (λ (done : Decided). done.number) c.args.decided.now c.args.number
+    (rises_by_number decided_entry c.args.decided.now (test_from _ c.requires)) in
     place_by_number decided_entry c.args.decided.now c.args.number _
-    (IsPartitionPoint-from_clause (λ (done : Decided). ltb done.number c.args.number) _ _ c.partition_point.ensures.partitioned parted (λ a r q k. search rules))
+    (IsPartitionPoint-from_clause (λ (done : Decided). ltb done.number c.args.number) _ _ c.partition_point.ensures.partitioned parted
+    (λ a r q k. search rules))

@@ -8,7 +8,8 @@ use Rattle.at_stat.proofs.search.row_of.Goals as goal
 pub returns-in_err-row-clause-absent : goal.returns-in_err-row-clause-absent
 returns-in_err-row-clause-absent c =
     if_none _ (entry_under (map row_entry c.args.rows.now) c.args.number ≡ None)
-    (not_found _ (none_at row_entry c.args.rows.now _ _ c.row_place.result c.args.number refl refl (test_from _ c.requires) c.row_place.ensures.place c.in_err-row.ensures.lookup.3))
+    (not_found _ (none_at row_entry c.args.rows.now _ _ c.row_place.result c.args.number refl refl (test_from _ c.requires)
+    c.row_place.ensures.place c.in_err-row.ensures.lookup.3))
 
 pub returns-then-row-number-clause-found : goal.returns-then-row-number-clause-found
 returns-then-row-number-clause-found c =
@@ -18,5 +19,6 @@ returns-then-row-number-clause-found c =
 
 pub returns-else-row-number-clause-absent : goal.returns-else-row-number-clause-absent
 returns-else-row-number-clause-absent c =
-    not_found _ (other_at row_entry c.args.rows.now _ _ c.row_place.result c.args.number c.in_ok-row.row.now refl refl (test_from _ c.requires) c.row_place.ensures.place c.in_ok-row.ensures.lookup.3
+    not_found _ (other_at row_entry c.args.rows.now _ _ c.row_place.result c.args.number c.in_ok-row.row.now refl refl
+    (test_from _ c.requires) c.row_place.ensures.place c.in_ok-row.ensures.lookup.3
     c.if-row-number.false)

@@ -8,6 +8,8 @@ use Rattle.at_stat.proofs.search.row_place.Goals as goal
 
 pub returns-clause-place : goal.returns-clause-place
 returns-clause-place c =
-    let parted = IsPartitionedBy-ltb (λ (row : Row). row.number) c.args.rows.now c.args.number (rises_by_number row_entry c.args.rows.now (test_from _ c.requires)) in
+    let parted = IsPartitionedBy-ltb (λ (row : Row). row.number) c.args.rows.now c.args.number
+    (rises_by_number row_entry c.args.rows.now (test_from _ c.requires)) in
     place_by_number row_entry c.args.rows.now c.args.number _
-    (IsPartitionPoint-from_clause (λ (row : Row). ltb row.number c.args.number) _ _ c.partition_point.ensures.partitioned parted (λ a r q k. search rules))
+    (IsPartitionPoint-from_clause (λ (row : Row). ltb row.number c.args.number) _ _ c.partition_point.ensures.partitioned parted
+    (λ a r q k. search rules))

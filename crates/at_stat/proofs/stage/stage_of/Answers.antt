@@ -6,5 +6,6 @@ returns-in-Some-clause-shown c = c.rows.ensures.ranges c.in-Some.row.now c.in-So
 
 pub returns-in-None-clause-stage : goal.returns-in-None-clause-stage
 returns-in-None-clause-stage c =
-    done_stage c.args.store.now.table c.rows.result.now c.decided.result.now c.args.number c.done_stage.result c.rows.ensures.rows c.decided.ensures
+    done_stage c.args.store.now.table c.rows.result.now c.decided.result.now c.args.number c.done_stage.result
+    c.rows.ensures.rows c.decided.ensures
     c.in-None.ensures.absent c.done_stage.ensures.stage

@@ -12,4 +12,5 @@ returns c =
     let turns = c.in_ok-turns.ensures ∙ ap (with (long_rule (codes "turns"))) wait in
     let queue = c.in_ok-queue.ensures ∙ ap (with (value_rule (codes "queue") 113)) turns in
     let json = c.in_ok-json.ensures ∙ ap (with (long_flag_rule (codes "json"))) queue in
-    made_with c.with_operands.result (app_of c.in_ok-json.json) stat_app operands_rule c.with_operands.ensures (ap (with operands_rule) json)
+    made_with c.with_operands.result (app_of c.in_ok-json.json) stat_app operands_rule c.with_operands.ensures
+    (ap (with operands_rule) json)

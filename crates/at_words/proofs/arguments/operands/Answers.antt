@@ -6,7 +6,9 @@ use Rattle.clap.proofs.WalkLemmas.{raw_values-rows}
 use Rattle.at_words.proofs.arguments.operands.Goals as goal
 
 -- what is found, or nothing
-gathered : (found : Option (Bor (List (Bor (List ℕ))))) → map (λ (text : Bor (List ℕ)). text.now) (option_map_or (λ (operands : Bor (List (Bor (List ℕ)))). operands.now) found []) ≡ unwrap_or (option_map (λ (operands : Bor (List (Bor (List ℕ)))). map (λ (text : Bor (List ℕ)). text.now) operands.now) found) []
+gathered : (found : Option (Bor (List (Bor (List ℕ)))))
+    → map (λ (text : Bor (List ℕ)). text.now) (option_map_or (λ (operands : Bor (List (Bor (List ℕ)))). operands.now) found [])
+    ≡ unwrap_or (option_map (λ (operands : Bor (List (Bor (List ℕ)))). map (λ (text : Bor (List ℕ)). text.now) operands.now) found) []
 gathered None = refl
 gathered (Some operands) = refl
 
@@ -14,4 +16,5 @@ pub returns : goal.returns
 returns c =
     ap (map (λ (text : Bor (List ℕ)). text.now)) c.or_none.ensures
     ∙ gathered c.get_strs.result
-    ∙ ap (λ (all : Option (List (List ℕ))). unwrap_or all []) (c.get_strs.ensures ∙ raw_values-rows (found_of c.args.matches.now) (codes "operands"))
+    ∙ ap (λ (all : Option (List (List ℕ))). unwrap_or all []) (c.get_strs.ensures
+    ∙ raw_values-rows (found_of c.args.matches.now) (codes "operands"))

@@ -12,8 +12,10 @@ parsed-requires c = ap is_simple_and_free c.in_ok-command.ensures
 
 pub returns-in_err-matches : goal.returns-in_err-matches
 returns-in_err-matches c =
-    asks_fails at_app at_asked (map string_bytes c.args.words.now) _ c.in_ok-command.ensures _ c.from_residual-in_err-matches.result c.in_err-matches.ensures c.from_residual-in_err-matches.ensures.1
+    asks_fails at_app at_asked (map string_bytes c.args.words.now) _ c.in_ok-command.ensures _ c.from_residual-in_err-matches.result
+    c.in_err-matches.ensures c.from_residual-in_err-matches.ensures.1
 
 pub returns : goal.returns
 returns c =
-    asks_taken at_app at_asked (map string_bytes c.args.words.now) _ c.in_ok-command.ensures c.in_ok-matches.matches c.tool_request.result c.in_ok-matches.ensures c.tool_request.ensures
+    asks_taken at_app at_asked (map string_bytes c.args.words.now) _ c.in_ok-command.ensures c.in_ok-matches.matches c.tool_request.result
+    c.in_ok-matches.ensures c.tool_request.ensures

@@ -10,4 +10,5 @@ returns c =
     let once = c.in_ok-once.ensures ∙ ap (with (flag_rule (codes "once") 115)) c.bare_command.ensures in
     let limit = c.in_ok-limit.ensures ∙ ap (with (value_rule (codes "limit") 108)) once in
     let interval = c.in_ok-interval.ensures ∙ ap (with (value_rule (codes "interval") 98)) limit in
-    made_with c.with_long.result (app_of c.in_ok-interval.interval) atd_app (long_rule (codes "turns")) c.with_long.ensures (ap (with (long_rule (codes "turns"))) interval)
+    made_with c.with_long.result (app_of c.in_ok-interval.interval) atd_app (long_rule (codes "turns")) c.with_long.ensures
+    (ap (with (long_rule (codes "turns"))) interval)

@@ -7,4 +7,5 @@ use Rattle.at_words.proofs.atday.tool_command.Goals as goal
 pub returns : goal.returns
 unfolding atday_app
 returns c =
-    made_with c.with_long.result (app_of c.bare_command.result) atday_app (long_rule (codes "make")) c.with_long.ensures (ap (with (long_rule (codes "make"))) c.bare_command.ensures)
+    made_with c.with_long.result (app_of c.bare_command.result) atday_app (long_rule (codes "make")) c.with_long.ensures
+    (ap (with (long_rule (codes "make"))) c.bare_command.ensures)

@@ -7,4 +7,5 @@ use Rattle.at_words.proofs.atrm.tool_command.Goals as goal
 pub returns : goal.returns
 unfolding atrm_app
 returns c =
-    made_with c.with_operands.result (app_of c.bare_command.result) atrm_app operands_rule c.with_operands.ensures (ap (with operands_rule) c.bare_command.ensures)
+    made_with c.with_operands.result (app_of c.bare_command.result) atrm_app operands_rule c.with_operands.ensures
+    (ap (with operands_rule) c.bare_command.ensures)

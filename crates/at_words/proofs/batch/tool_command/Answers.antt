@@ -7,4 +7,5 @@ use Rattle.at_words.proofs.batch.tool_command.Goals as goal
 pub returns : goal.returns
 unfolding batch_app
 returns c =
-    made_with c.with_value.result (app_of c.bare_command.result) batch_app (value_rule (codes "file") 102) c.with_value.ensures (ap (with (value_rule (codes "file") 102)) c.bare_command.ensures)
+    made_with c.with_value.result (app_of c.bare_command.result) batch_app (value_rule (codes "file") 102) c.with_value.ensures
+    (ap (with (value_rule (codes "file") 102)) c.bare_command.ensures)

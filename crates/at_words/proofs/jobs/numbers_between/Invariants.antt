@@ -5,4 +5,5 @@ use Rattle.at_words.proofs.jobs.numbers_between.Given as goal
 
 abbrev pub invariant-loop-operand : goal.invariant-loop-operand
 invariant-loop-operand l =
-    with_numbers l.least l.greatest l.numbers (texts (drop l.operand-index l.operands)) ≡ numbers_between l.least l.greatest (texts l.operands)
+    with_numbers l.least l.greatest l.numbers (texts (drop l.operand-index l.operands))
+    ≡ numbers_between l.least l.greatest (texts l.operands)

@@ -14,7 +14,8 @@ words_from {W} bytes_of words place =
     ∙ sym (drop-map bytes_of place words)
 
 pub returns-in-Some-clause-asked : goal.returns-in-Some-clause-asked
-returns-in-Some-clause-asked c = rw c.in-Some.is (subst (λ (words : List (List ℕ)). Answers (request_to c.in-Some.tool words) c.request_to.result)
+returns-in-Some-clause-asked c =
+    rw c.in-Some.is (subst (λ (words : List (List ℕ)). Answers (request_to c.in-Some.tool words) c.request_to.result)
     (words_from _ c.args.words.now (c.in-Some.start - 1)) c.request_to.ensures)
 
 pub returns-in-Some-clause-letter : goal.returns-in-Some-clause-letter

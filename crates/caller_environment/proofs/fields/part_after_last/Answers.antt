@@ -13,7 +13,8 @@ pub returns : goal.returns
 returns c =
     let text : List ℕ = c.args.text.now in
     let test : ℕ → Bool = λ byte. not (byte == c.args.mark) in
-    let counted = count_from_yields_List _ _ c.count-count.ensures.ran (YieldsList-from_take_while _ test (YieldsList-from_rev_slice text cc) c.take_while.ensures.closure c.take_while.ensures.done (λ x b q k. search (rules, tests))) in
+    let counted = count_from_yields_List _ _ c.count-count.ensures.ran (YieldsList-from_take_while _ test
+    (YieldsList-from_rev_slice text cc) c.take_while.ensures.closure c.take_while.ensures.done (λ x b q k. search (rules, tests))) in
     let size : c.count-count.result ≡ prefix_len test (reverse text) = counted ∙ length-prefix_len test (reverse text) in
     let start : ℕ = length text - c.count-count.result in
     let all : length (drop start text) ≤ length text - start = rw (length-drop start text) (omega arith) in

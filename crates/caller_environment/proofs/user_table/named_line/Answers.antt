@@ -7,5 +7,7 @@ use borrow.Author.Tests.{tests}
 
 pub returns : goal.returns
 returns c =
-    let lines = YieldsList-from_slice_split _ _ c.args.table.now c.split.ensures.rest c.split.ensures.done c.split.ensures.closure (λ x b q k. search (rules, tests)) in
-    find_from_yields_List (is_user_named c.args.number c.args.name.now) _ _ c.find.result c.find.ensures.ran lines (λ x b q k. search (rules, tests))
+    let lines = YieldsList-from_slice_split _ _ c.args.table.now c.split.ensures.rest c.split.ensures.done c.split.ensures.closure
+    (λ x b q k. search (rules, tests)) in
+    find_from_yields_List (is_user_named c.args.number c.args.name.now) _ _ c.find.result c.find.ensures.ran lines
+    (λ x b q k. search (rules, tests))

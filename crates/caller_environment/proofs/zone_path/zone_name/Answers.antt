@@ -5,7 +5,8 @@ use Rattle.caller_environment.specs.ZoneFile.{zone_name}
 use Rattle.caller_environment.proofs.zone_path.zone_name.Goals as goal
 
 -- the first byte with what follows it, by whether it is a colon
-name-of_cons : (byte : ℕ) (others : List ℕ) (colon : Bool) → (byte == 58) ≡ colon → ((rest : List ℕ) → (byte ∷ others) ≢ (58 ∷ rest)) → (byte ∷ others) ≡ cond colon others (byte ∷ others)
+name-of_cons : (byte : ℕ) (others : List ℕ) (colon : Bool) → (byte == 58) ≡ colon → ((rest : List ℕ) → (byte ∷ others) ≢ (58 ∷ rest))
+    → (byte ∷ others) ≡ cond colon others (byte ∷ others)
 name-of_cons byte others true is other =
     let same : byte ≡ 58 = grind (arith, nat_tests) in
     absurd (other others (rw same refl))

@@ -16,4 +16,5 @@ returns-clause-value c =
 
 pub returns-clause-printable : goal.returns-clause-printable
 returns-clause-printable c =
-    shown_printable c.args.zone.now (pos (60 * c.args.minute)) c.local_at.result c.fields_of.result c.fields_of.ensures (shown c) (omega (arith, signed_arith))
+    shown_printable c.args.zone.now (pos (60 * c.args.minute)) c.local_at.result c.fields_of.result c.fields_of.ensures (shown c)
+    (omega (arith, signed_arith))

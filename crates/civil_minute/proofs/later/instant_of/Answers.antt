@@ -14,12 +14,15 @@ returns-in-Ok-clause-ok c =
     let same : FitsSigned w64 c.floor_second.result = omega (arith, ints) in
     let time = c.from_second-time.ensures in
     rw (to_z-of_z same)
-    (instant_found c.args.zone.now local c.args.given c.in-Ok.instant.nanosecond c.floor_second.result time.seconds time.subsec at.value c.floor_second.ensures)
+    (instant_found c.args.zone.now local c.args.given c.in-Ok.instant.nanosecond c.floor_second.result time.seconds time.subsec
+    at.value c.floor_second.ensures)
 
 pub returns-in-Err-clause-err : goal.returns-in-Err-clause-err
 returns-in-Err-clause-err c =
     let rules : c.to_plain.result ≡ rules_of c.args.zone.now = c.to_plain.ensures ∙ c.time_zone.ensures in
     let local : DateTime = record { date = c.args.date; time = c.from_second-time.result } in
     let at = rw rules at c.in-Err.ensures in
-    let time = c.from_second-time.ensures in
-    (refl, instant_outside c.args.zone.now local c.args.given time.seconds time.subsec (λ within. both_ways false refl (at.succeeds.1 within)))
+    let time = c.from_second-time.ensures in (
+      refl,
+      instant_outside c.args.zone.now local c.args.given time.seconds time.subsec (λ within. both_ways false refl (at.succeeds.1 within)),
+    )

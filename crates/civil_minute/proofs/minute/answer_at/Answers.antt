@@ -4,7 +4,8 @@ use Rattle.civil_minute.proofs.minute.answer_at.Goals as goal
 
 pub returns-then-minute-minute_at : goal.returns-then-minute-minute_at
 returns-then-minute-minute_at c =
-    let fits : FitsSigned w64 c.args.now × FitsSigned w64 c.args.start × FitsSigned w64 c.args.seconds = (c.ranges.now, c.ranges.start, c.ranges.seconds) in
+    let fits : FitsSigned w64 c.args.now × FitsSigned w64 c.args.start × FitsSigned w64 c.args.seconds =
+    (c.ranges.now, c.ranges.start, c.ranges.seconds) in
     let sum : FitsSigned w64 (c.args.start +ℤ c.args.seconds) = omega (arith, ints, c.requires.start, c.requires.seconds) in
     let (fits_now, fits_start, fits_seconds) = fits in
     let minute = simp to_z-of_z at c.minute_at-minute.ensures.value in
@@ -16,7 +17,8 @@ returns-then-minute-minute_at c =
 
 pub returns : goal.returns
 returns c =
-    let fits : FitsSigned w64 c.args.now × FitsSigned w64 c.args.start × FitsSigned w64 c.args.seconds = (c.ranges.now, c.ranges.start, c.ranges.seconds) in
+    let fits : FitsSigned w64 c.args.now × FitsSigned w64 c.args.start × FitsSigned w64 c.args.seconds =
+    (c.ranges.now, c.ranges.start, c.ranges.seconds) in
     let sum : FitsSigned w64 (c.args.start +ℤ c.args.seconds) = omega (arith, ints, c.requires.start, c.requires.seconds) in
     let (fits_now, fits_start, fits_seconds) = fits in
     let minute = simp to_z-of_z at c.minute_at-minute.ensures.value in

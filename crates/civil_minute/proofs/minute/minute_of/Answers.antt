@@ -17,7 +17,8 @@ returns-in_err-date-clause-meant c =
     let fault = err_from_is_err_and c.from_residual.result c.from_residual.ensures.1 in
     let err = c.in_err-date.ensures.err in
     rw (fault.1, fault.2, err.0)
-    (means_no_day c.args.spec.now c.args.now c.args.zone.now c.zone_of_clock-zone.result c.to_plain-local.result c.zone_of_clock-zone.ensures
+    (means_no_day c.args.spec.now c.args.now c.args.zone.now c.zone_of_clock-zone.result c.to_plain-local.result
+    c.zone_of_clock-zone.ensures
     (subst (IsLocalTime c.zone_of_clock-zone.result c.args.now) (sym c.to_plain-local.ensures) at) err.1)
 
 pub returns-clause-meant : goal.returns-clause-meant
@@ -30,10 +31,12 @@ returns-clause-meant c =
     c.keeps_instant-instant.ensures c.in_ok-date.ensures.ok (simp to_z-of_z at c.minute_on.ensures)
 
 pub returns-in_err-date-clause-only : goal.returns-in_err-date-clause-only
-returns-in_err-date-clause-only c = λ other means. one_meaning c.args.spec.now c.args.now c.args.zone.now other c.from_residual.result means (returns-in_err-date-clause-meant c)
+returns-in_err-date-clause-only c = λ other means.
+    one_meaning c.args.spec.now c.args.now c.args.zone.now other c.from_residual.result means (returns-in_err-date-clause-meant c)
 
 pub returns-clause-only : goal.returns-clause-only
-returns-clause-only c = λ other means. one_meaning c.args.spec.now c.args.now c.args.zone.now other c.minute_on.result means (returns-clause-meant c)
+returns-clause-only c =
+    λ other means. one_meaning c.args.spec.now c.args.now c.args.zone.now other c.minute_on.result means (returns-clause-meant c)
 
 pub returns-clause-in_range : goal.returns-clause-in_range
 returns-clause-in_range c = means_in_range c.args.spec.now c.args.now c.args.zone.now c.minute_on.result (returns-clause-meant c)

@@ -28,10 +28,12 @@ returns-clause-meant c =
     (omega arith) (simp to_z-of_z at c.minute_on.ensures)
 
 pub returns-in_err-date-clause-only : goal.returns-in_err-date-clause-only
-returns-in_err-date-clause-only c = λ other means. one_touch_meaning c.args.time.now c.args.now c.args.zone.now other c.from_residual.result means (returns-in_err-date-clause-meant c)
+returns-in_err-date-clause-only c = λ other means.
+    one_touch_meaning c.args.time.now c.args.now c.args.zone.now other c.from_residual.result means (returns-in_err-date-clause-meant c)
 
 pub returns-clause-only : goal.returns-clause-only
-returns-clause-only c = λ other means. one_touch_meaning c.args.time.now c.args.now c.args.zone.now other c.minute_on.result means (returns-clause-meant c)
+returns-clause-only c =
+    λ other means. one_touch_meaning c.args.time.now c.args.now c.args.zone.now other c.minute_on.result means (returns-clause-meant c)
 
 pub returns-clause-in_range : goal.returns-clause-in_range
 returns-clause-in_range c = touch_means_in_range c.args.time.now c.args.now c.args.zone.now c.minute_on.result (returns-clause-meant c)

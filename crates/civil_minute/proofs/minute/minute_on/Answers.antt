@@ -19,7 +19,8 @@ returns-in_err-start c =
     let err = c.in_err-start.ensures.err in
     let date = c.in_ok-date.date in
     rw (fault.1, fault.2, err.0)
-    (becomes_outside c.args.instant c.args.zone.now c.args.now c.args.date c.args.given c.args.later (epoch_day date) (epoch_day_range date) c.in_ok-date.ensures.ok err.1 err.2)
+    (becomes_outside c.args.instant c.args.zone.now c.args.now c.args.date c.args.given c.args.later (epoch_day date) (epoch_day_range date)
+    c.in_ok-date.ensures.ok err.1 err.2)
 
 pub returns : goal.returns
 returns c =
@@ -27,6 +28,8 @@ returns c =
     let first : FitsSigned w64 c.in_ok-start.start = omega (arith, ints, c.in_ok-start.ensures.bound) in
     let added : FitsSigned w64 c.later_seconds.result = omega (arith, ints, c.later_seconds.ensures.bound) in
     let date = c.in_ok-date.date in
-    becomes_answer c.args.instant c.args.zone.now c.args.now c.args.date c.args.given c.args.later (epoch_day date) c.in_ok-start.start c.later_seconds.result
-    c.answer_at.result (epoch_day_range date) c.in_ok-date.ensures.ok (simp to_z-of_z at c.in_ok-start.ensures.ok) c.later_seconds.ensures.value
+    becomes_answer c.args.instant c.args.zone.now c.args.now c.args.date c.args.given c.args.later (epoch_day date)
+    c.in_ok-start.start c.later_seconds.result
+    c.answer_at.result (epoch_day_range date) c.in_ok-date.ensures.ok (simp to_z-of_z at c.in_ok-start.ensures.ok)
+    c.later_seconds.ensures.value
     (simp to_z-of_z at c.answer_at.ensures)

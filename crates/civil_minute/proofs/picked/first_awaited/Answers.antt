@@ -19,5 +19,7 @@ returns c =
     let few : FitsSigned w64 c.from.result = omega (arith, ints) in
     let moved = simp to_z-of_z at sum in
     let k = c.days_ahead-ahead.ensures.value in
-    first_awaited c.args.weekday c.args.given (epoch_day c.args.local.date) _ ((c.index.result + 1) % 7) _ (epoch_day c.unwrap.result) c.requires.weekday
-    (ap (λ day. (day + 1) % 7) weekday) (ap (λ (time : ℕ). nat_le c.args.given time) c.to_second.ensures.value) (moved ∙ ap (λ (days : ℤ). epoch_day c.args.local.date +ℤ days) (c.from.ensures ∙ ap pos k))
+    first_awaited c.args.weekday c.args.given (epoch_day c.args.local.date) _ ((c.index.result + 1) % 7) _
+    (epoch_day c.unwrap.result) c.requires.weekday
+    (ap (λ day. (day + 1) % 7) weekday) (ap (λ (time : ℕ). nat_le c.args.given time) c.to_second.ensures.value) (moved
+    ∙ ap (λ (days : ℤ). epoch_day c.args.local.date +ℤ days) (c.from.ensures ∙ ap pos k))

@@ -14,6 +14,7 @@ invariant-loop-commands g l = record {
   live : live_count l.store.table + length l.due ≤ MAX_LIVE + l.commands-index;
   written : l.numbers.items ≡ l.fn.numbers.items ++ next_numbers l.fn.store.table.last l.commands-index;
   room : vec_len l.numbers + length l.due ≤ vec_capacity l.numbers + l.commands-index;
-  so_far : AllSoFar g.H.Host.tells l.fn.store l.store (cron_jobs l.context l.minute l.due) (cron_jobs l.context l.minute (take l.commands-index l.due))
+  so_far : AllSoFar g.H.Host.tells l.fn.store l.store (cron_jobs l.context l.minute l.due)
+      (cron_jobs l.context l.minute (take l.commands-index l.due))
       (g.H.Host.world l.fn.host) (g.H.Host.world l.host);
 }

@@ -21,7 +21,9 @@ pub overflow_add-number : goal.overflow_add-number
 overflow_add-number c =
     let loop = c.loop-line in
     let few = few_lines c.args.text.now (length loop.yielded) c.in-Some.line.now
-    (YieldsList-turn (YieldsList-at c.into_iter-line-iterator.ensures.into_iter_gives (YieldsList-from_slice_split _ (λ b. b == 10) c.args.text.now c.split-line-items.ensures.rest c.split-line-items.ensures.done c.split-line-items.ensures.closure (λ x b q k. search (rules, tests)))) loop.yielded _ loop.yielded_by _ _ c.in-Some.line c.in-Some.is c.next.ensures.steps) in
+    (YieldsList-turn (YieldsList-at c.into_iter-line-iterator.ensures.into_iter_gives (YieldsList-from_slice_split _ (λ b. b == 10)
+    c.args.text.now c.split-line-items.ensures.rest c.split-line-items.ensures.done c.split-line-items.ensures.closure
+    (λ x b q k. search (rules, tests)))) loop.yielded _ loop.yielded_by _ _ c.in-Some.line c.in-Some.is c.next.ensures.steps) in
     let counted : loop.number ≡ length loop.yielded = loop.invariant.1 in
     omega arith
 
@@ -29,22 +31,32 @@ pub returns-then-not-branch : goal.returns-then-not-branch
 returns-then-not-branch c =
     let loop = c.loop-line in
     let bad = lines-bad loop.entries.items loop.number (lines_of c.args.text.now) (length loop.yielded) c.in-Some.line.now
-    (YieldsList-turn (YieldsList-at c.into_iter-line-iterator.ensures.into_iter_gives (YieldsList-from_slice_split _ (λ b. b == 10) c.args.text.now c.split-line-items.ensures.rest c.split-line-items.ensures.done c.split-line-items.ensures.closure (λ x b q k. search (rules, tests)))) loop.yielded _ loop.yielded_by _ _ c.in-Some.line c.in-Some.is c.next.ensures.steps)
+    (YieldsList-turn (YieldsList-at c.into_iter-line-iterator.ensures.into_iter_gives (YieldsList-from_slice_split _ (λ b. b == 10)
+    c.args.text.now c.split-line-items.ensures.rest c.split-line-items.ensures.done c.split-line-items.ensures.closure
+    (λ x b q k. search (rules, tests)))) loop.yielded _ loop.yielded_by _ _ c.in-Some.line c.in-Some.is c.next.ensures.steps)
     (c.in_ok-take_line.ensures ∙ rw c.if-not-branch.true refl) in
     crontab_bad c.args.text.now (loop.number + 1) (sym loop.invariant.2 ∙ bad)
 
 pub loop-line-preserved : goal.loop-line-preserved
 loop-line-preserved c =
     let loop = c.loop-line in
-    let more = lines-more loop.entries.items loop.number (lines_of c.args.text.now) (length loop.yielded) c.in-Some.line.now c.take_line.new.entries.items
-    (YieldsList-turn (YieldsList-at c.into_iter-line-iterator.ensures.into_iter_gives (YieldsList-from_slice_split _ (λ b. b == 10) c.args.text.now c.split-line-items.ensures.rest c.split-line-items.ensures.done c.split-line-items.ensures.closure (λ x b q k. search (rules, tests)))) loop.yielded _ loop.yielded_by _ _ c.in-Some.line c.in-Some.is c.next.ensures.steps)
+    let more = lines-more loop.entries.items loop.number (lines_of c.args.text.now) (length loop.yielded) c.in-Some.line.now
+    c.take_line.new.entries.items
+    (YieldsList-turn (YieldsList-at c.into_iter-line-iterator.ensures.into_iter_gives (YieldsList-from_slice_split _ (λ b. b == 10)
+    c.args.text.now c.split-line-items.ensures.rest c.split-line-items.ensures.done c.split-line-items.ensures.closure
+    (λ x b q k. search (rules, tests)))) loop.yielded _ loop.yielded_by _ _ c.in-Some.line c.in-Some.is c.next.ensures.steps)
     (c.in_ok-take_line.ensures ∙ rw c.if-not-branch.false refl) in
-    let counted : loop.number ≡ length loop.yielded = loop.invariant.1 in
-    (search rules, rw (length_push loop.yielded c.in-Some.line) (omega arith), rw (length_push loop.yielded c.in-Some.line) (sym more ∙ loop.invariant.2))
+    let counted : loop.number ≡ length loop.yielded = loop.invariant.1 in (
+      search rules,
+      rw (length_push loop.yielded c.in-Some.line) (omega arith),
+      rw (length_push loop.yielded c.in-Some.line) (sym more ∙ loop.invariant.2),
+    )
 
 pub returns : goal.returns
 returns c =
     let loop = c.loop-line in
     let ended = lines-end loop.entries.items loop.number (lines_of c.args.text.now) (length loop.yielded)
-    (YieldsList-end (YieldsList-at c.into_iter-line-iterator.ensures.into_iter_gives (YieldsList-from_slice_split _ (λ b. b == 10) c.args.text.now c.split-line-items.ensures.rest c.split-line-items.ensures.done c.split-line-items.ensures.closure (λ x b q k. search (rules, tests)))) loop.yielded _ loop.yielded_by _ _ c.in-None.is c.next.ensures.steps) in
+    (YieldsList-end (YieldsList-at c.into_iter-line-iterator.ensures.into_iter_gives (YieldsList-from_slice_split _ (λ b. b == 10)
+    c.args.text.now c.split-line-items.ensures.rest c.split-line-items.ensures.done c.split-line-items.ensures.closure
+    (λ x b q k. search (rules, tests)))) loop.yielded _ loop.yielded_by _ _ c.in-None.is c.next.ensures.steps) in
     crontab_sound c.args.text.now loop.entries.items (sym loop.invariant.2 ∙ ended)

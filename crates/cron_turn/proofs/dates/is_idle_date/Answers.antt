@@ -9,6 +9,8 @@ returns-in-Ok c = λ is.
     let fits : FitsSigned w64 c.from.result = omega (arith, ints) in
     let few : FitsSigned w64 (c.from.result -ℤ pos 2) = omega (arith, ints) in
     let day : epoch_day c.in-Ok.date ≡ c.from.result -ℤ pos 2 =
-    c.in-Ok.ensures.value ∙ ap (λ (number : ℤ). to_z w64 (of_z w64 (number -ℤ pos 2))) (to_z-of_z w64 c.from.result fits) ∙ to_z-of_z w64 (c.from.result -ℤ pos 2) few in
-    idle_date c.args.entry.now c.in-Ok.date (pos c.args.date -ℤ pos 2) c.midnight.result (day ∙ ap (λ (number : ℤ). number -ℤ pos 2) c.from.ensures) c.midnight.ensures
+    c.in-Ok.ensures.value ∙ ap (λ (number : ℤ). to_z w64 (of_z w64 (number -ℤ pos 2))) (to_z-of_z w64 c.from.result fits)
+    ∙ to_z-of_z w64 (c.from.result -ℤ pos 2) few in
+    idle_date c.args.entry.now c.in-Ok.date (pos c.args.date -ℤ pos 2) c.midnight.result (day
+    ∙ ap (λ (number : ℤ). number -ℤ pos 2) c.from.ensures) c.midnight.ensures
     (sym c.is_date_due.ensures ∙ not_true c.is_date_due.result is)

@@ -10,7 +10,9 @@ pub returns-in-Ok-clause-listed : goal.returns-in-Ok-clause-listed
 returns-in-Ok-clause-listed g c =
     listing_put c.in-Ok.text c.put_listing.result (sym c.is_unreadable.ensures ∙ c.if-is_unreadable.false) c.in-Ok.ensures
     (subst (λ (of : List ℕ). PutsListing g.O.Sink.tells of (sink_at (g.O.Sink.content c.args.out.now) (g.O.Sink.outlet c.args.out.now))
-    (sink_at (g.O.Sink.content c.put_listing.new.out) (g.O.Sink.outlet c.put_listing.new.out)) c.put_listing.result) c.as_slice.ensures c.put_listing.ensures.puts)
+    (sink_at (g.O.Sink.content c.put_listing.new.out) (g.O.Sink.outlet c.put_listing.new.out)) c.put_listing.result) c.as_slice.ensures
+    c.put_listing.ensures.puts)
 
 pub returns-in-Err-clause-listed : goal.returns-in-Err-clause-listed
-returns-in-Err-clause-listed g c = no_listing c.in-Err.stopped (sym c.is_unreadable.ensures ∙ c.if-is_unreadable.false) c.in-Err.ensures refl
+returns-in-Err-clause-listed g c =
+    no_listing c.in-Err.stopped (sym c.is_unreadable.ensures ∙ c.if-is_unreadable.false) c.in-Err.ensures refl

@@ -9,4 +9,5 @@ pub returns : goal.returns
 unfolding next_app
 returns c =
     let file = c.in_ok-file.ensures ∙ ap (with (value_rule (codes "file") 102)) c.bare_command.ensures in
-    made_with c.with_long.result (app_of c.in_ok-file.file) next_app (long_rule (codes "next")) c.with_long.ensures (ap (with (long_rule (codes "next"))) file)
+    made_with c.with_long.result (app_of c.in_ok-file.file) next_app (long_rule (codes "next")) c.with_long.ensures
+    (ap (with (long_rule (codes "next"))) file)

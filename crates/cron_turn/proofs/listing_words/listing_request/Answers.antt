@@ -16,9 +16,12 @@ returns-then-is_empty c = sym (ap next_asked (no_words string_bytes c.args.words
 pub returns-in_err-matches : goal.returns-in_err-matches
 returns-in_err-matches c =
     with_name next_app listing_rows_asked string_bytes c.args.words.now _ (sym c.is_empty.ensures ∙ c.if-is_empty.false)
-    (asks_fails next_app listing_rows_asked (map string_bytes c.args.words.now) _ c.in_ok-command.ensures _ c.from_residual-in_err-matches.result c.in_err-matches.ensures c.from_residual-in_err-matches.ensures.1)
+    (asks_fails next_app listing_rows_asked (map string_bytes c.args.words.now) _ c.in_ok-command.ensures _
+    c.from_residual-in_err-matches.result c.in_err-matches.ensures c.from_residual-in_err-matches.ensures.1)
 
 pub returns : goal.returns
 returns c =
-    with_name next_app listing_rows_asked string_bytes c.args.words.now c.listing_request_of.result (sym c.is_empty.ensures ∙ c.if-is_empty.false)
-    (asks_taken next_app listing_rows_asked (map string_bytes c.args.words.now) _ c.in_ok-command.ensures c.in_ok-matches.matches c.listing_request_of.result c.in_ok-matches.ensures c.listing_request_of.ensures)
+    with_name next_app listing_rows_asked string_bytes c.args.words.now c.listing_request_of.result
+    (sym c.is_empty.ensures ∙ c.if-is_empty.false)
+    (asks_taken next_app listing_rows_asked (map string_bytes c.args.words.now) _ c.in_ok-command.ensures c.in_ok-matches.matches
+    c.listing_request_of.result c.in_ok-matches.ensures c.listing_request_of.ensures)

@@ -16,9 +16,11 @@ returns-then-is_empty c = sym (ap cron_asked (no_words string_bytes c.args.words
 pub returns-in_err-matches : goal.returns-in_err-matches
 returns-in_err-matches c =
     with_name cron_app crontab_asked string_bytes c.args.words.now _ (sym c.is_empty.ensures ∙ c.if-is_empty.false)
-    (asks_fails cron_app crontab_asked (map string_bytes c.args.words.now) _ c.in_ok-command.ensures _ c.from_residual-in_err-matches.result c.in_err-matches.ensures c.from_residual-in_err-matches.ensures.1)
+    (asks_fails cron_app crontab_asked (map string_bytes c.args.words.now) _ c.in_ok-command.ensures _ c.from_residual-in_err-matches.result
+    c.in_err-matches.ensures c.from_residual-in_err-matches.ensures.1)
 
 pub returns : goal.returns
 returns c =
     with_name cron_app crontab_asked string_bytes c.args.words.now c.cron_request_of.result (sym c.is_empty.ensures ∙ c.if-is_empty.false)
-    (asks_taken cron_app crontab_asked (map string_bytes c.args.words.now) _ c.in_ok-command.ensures c.in_ok-matches.matches c.cron_request_of.result c.in_ok-matches.ensures c.cron_request_of.ensures)
+    (asks_taken cron_app crontab_asked (map string_bytes c.args.words.now) _ c.in_ok-command.ensures c.in_ok-matches.matches
+    c.cron_request_of.result c.in_ok-matches.ensures c.cron_request_of.ensures)

@@ -18,7 +18,8 @@ end_tells number (Forgotten other) is = cc
 pub returns : goal.returns
 returns c =
     c.is_ok.ensures.value
-    ∙ found_by number_of_step c.args.ended.now c.args.number c.binary_search_by_key.result c.requires.ordered c.binary_search_by_key.ensures.bound
+    ∙ found_by number_of_step c.args.ended.now c.args.number c.binary_search_by_key.result c.requires.ordered
+    c.binary_search_by_key.ensures.bound
     (c.binary_search_by_key.ensures.position number_of_step (answers_always _ _ _ (λ f a r g called. search rules)))
     ∙ any_alike (λ step. number_of_step step == c.args.number) (tells_end_of c.args.number) c.args.ended.now
     (λ step has. end_tells c.args.number step (all_each (λ one. is_end one ≡ true) c.args.ended.now c.requires.each step has))

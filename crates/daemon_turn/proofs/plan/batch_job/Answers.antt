@@ -12,5 +12,6 @@ returns-then-may_start_batch c =
     ap (λ (last : Option ℤ). may_start_batch at.load c.args.limit last at.now c.args.interval) (sym c.last_batch.ensures.last_batch)
     ∙ ap (λ (now : ℤ). may_start_batch at.load c.args.limit c.last_batch.result now c.args.interval) (sym (clock_same at.now c.requires))
     ∙ sym c.if-may_start_batch.ensures in
-    batch_in_line table c.due_batch.result.now at.now _ (may_start_batch at.load c.args.limit table.last_batch at.now c.args.interval) c.first_of.result
+    batch_in_line table c.due_batch.result.now at.now _
+    (may_start_batch at.load c.args.limit table.last_batch at.now c.args.interval) c.first_of.result
     (clock_same at.now c.requires) may c.due_batch.ensures c.first_of.ensures.some c.first_of.ensures.none

@@ -21,12 +21,14 @@ leave-requires g c =
       counts = c.in_ok-enter.ensures.enters.counts;
       quiet = record { goes_on = c.in_ok-enter.ensures.goes_on; alone = c.in_ok-enter.ensures.alone };
     } in
-    let did : CalledAtMut g.F.FnMut c.args.work.now c.enter.new.self c.work-answer.result c.work-answer.new.self c.work-answer.new.arg2 = search rules in
+    let did : CalledAtMut g.F.FnMut c.args.work.now c.enter.new.self c.work-answer.result c.work-answer.new.self c.work-answer.new.arg2 =
+    search rules in
     c.requires.stays c.enter.new.self c.work-answer.new.arg2 c.work-answer.new.self c.work-answer.result begun did
 
 pub returns : goal.returns
 returns g c =
-    let did : CalledAtMut g.F.FnMut c.args.work.now c.enter.new.self c.work-answer.result c.work-answer.new.self c.work-answer.new.arg2 = search rules in
+    let did : CalledAtMut g.F.FnMut c.args.work.now c.enter.new.self c.work-answer.result c.work-answer.new.self c.work-answer.new.arg2 =
+    search rules in
     record {
       ends = record {
         first = c.enter.new.self;

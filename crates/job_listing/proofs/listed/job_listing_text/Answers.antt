@@ -36,8 +36,10 @@ returns c =
     let shows : ShowsRows c.args.zone.now moved c.in_ok-text.text.items =
     subst (λ (rows : List Row). ShowsRows c.args.zone.now rows c.in_ok-text.text.items) c.deref.ensures.value c.in_ok-text.ensures in
     let listed : c.in_ok-rows.rows.items ≡ filter test (live_rows c.args.store.now.table) =
-    c.in_ok-rows.ensures ∙ ap (λ (rows : List Row). filter test rows) (sym (rows_listed c.args.store.now.table c.rows.result.now c.rows.ensures.rows)) in
-    subst (λ (text : List ℕ). IsListing c.args.zone.now c.args.store.now.table c.args.user.now (passes_of c.args.which.now) text) (sym c.from.ensures)
+    c.in_ok-rows.ensures
+    ∙ ap (λ (rows : List Row). filter test rows) (sym (rows_listed c.args.store.now.table c.rows.result.now c.rows.ensures.rows)) in
+    subst (λ (text : List ℕ). IsListing c.args.zone.now c.args.store.now.table c.args.user.now (passes_of c.args.which.now) text)
+    (sym c.from.ensures)
     (record {
       rows = moved;
       lines = shows.lines;

@@ -9,6 +9,7 @@ abbrev pub invariant-loop-number : goal.invariant-loop-number
 invariant-loop-number g l = record {
   inside : StaysInside (g.H.Host.session l.fn.host) (g.H.Host.session l.host);
   made_as : (g.O.Sink.outlet l.out).made_as ≡ (g.O.Sink.outlet l.fn.out).made_as;
-  puts : PutsScripts g.H.Host.tells g.O.Sink.tells l.store (take l.number-index l.numbers) (g.H.Host.world l.fn.host) (g.H.Host.world l.host)
+  puts : PutsScripts g.H.Host.tells g.O.Sink.tells l.store (take l.number-index l.numbers)
+      (g.H.Host.world l.fn.host) (g.H.Host.world l.host)
       (sink_at (g.O.Sink.content l.fn.out) (g.O.Sink.outlet l.fn.out)) (sink_at (g.O.Sink.content l.out) (g.O.Sink.outlet l.out)) (Ok tt);
 }

@@ -44,7 +44,8 @@ loop-event-preserved c =
     let put : c.push_reserved.new.self.items ≡ c.loop-event.entries.items ++ c.in_ok-entry.entry ∷ [] =
     cc (c.push_reserved.ensures.items, c.in_ok-reserve.ensures.items) in
     let inside : c.loop-event.event-index < length c.args.events.now = omega arith in
-    later_so_far_more c.args.program.now c.args.events.now c.loop-event.event-index c.loop-event.entries.items c.push_reserved.new.self.items
+    later_so_far_more c.args.program.now c.args.events.now c.loop-event.event-index c.loop-event.entries.items
+    c.push_reserved.new.self.items
     (first_later_machine c.args.host.now c.args.program.now) (later_machine c.loop-event.host c.loop-event.daemon c.loop-event.post)
     c.loop-event.invariant c.event-item.result inside c.event-item.is
     (subst IsLaterEvent (sym c.event-item.is) (c.requires.events c.loop-event.event-index c.event-item.result inside))

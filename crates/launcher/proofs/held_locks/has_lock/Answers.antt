@@ -8,5 +8,6 @@ use borrow.Author.Tests.{tests}
 pub returns : goal.returns
 returns c =
     let tells : List ℕ → Bool = λ line. is_lock_of line c.args.ending.now in
-    let lines = YieldsList-from_slice_split _ _ c.args.table.now c.split.ensures.rest c.split.ensures.done c.split.ensures.closure (λ x b q k. search (rules, tests)) in
+    let lines = YieldsList-from_slice_split _ _ c.args.table.now c.split.ensures.rest c.split.ensures.done c.split.ensures.closure
+    (λ x b q k. search (rules, tests)) in
     any_from_yields_List tells _ _ _ c.any.ensures.ran lines (λ x b q k. search (rules, tests))

@@ -8,5 +8,6 @@ use borrow.Author.Tests.{tests}
 pub returns : goal.returns
 returns c =
     let tells : List ℕ → Bool = λ field. ends_so field c.args.ending.now in
-    let fields = YieldsList-from_slice_split _ _ c.args.line.now c.split.ensures.rest c.split.ensures.done c.split.ensures.closure (λ x b q k. search (rules, tests)) in
+    let fields = YieldsList-from_slice_split _ _ c.args.line.now c.split.ensures.rest c.split.ensures.done c.split.ensures.closure
+    (λ x b q k. search (rules, tests)) in
     any_from_yields_List tells _ _ _ c.any.ensures.ran fields (λ x b q k. search (rules, tests))

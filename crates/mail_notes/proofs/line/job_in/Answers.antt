@@ -12,7 +12,8 @@ returns-in_err-parts-clause-none c = rw c.from_residual.ensures (λ job text.
 pub returns-in_err-file-clause-none : goal.returns-in_err-file-clause-none
 returns-in_err-file-clause-none c = rw c.from_residual-in_err-file.ensures (λ job text.
     let same = parts_alike _ _ _ _ _ _ _ (parts_of c.args.number c.args.rest.now job text) c.in_ok-parts.ensures.some in
-    c.in_err-file.ensures.none (subst (λ file. IsJobFileName c.args.number file) same.0 (subst (λ number. IsJobFileName number job.file) text.number_is text.of.file)))
+    c.in_err-file.ensures.none
+    (subst (λ file. IsJobFileName c.args.number file) same.0 (subst (λ number. IsJobFileName number job.file) text.number_is text.of.file)))
 
 pub returns-in_err-always-clause-none : goal.returns-in_err-always-clause-none
 returns-in_err-always-clause-none c = rw c.from_residual-in_err-always.ensures (λ job text.

@@ -6,7 +6,8 @@ use Rattle.mail_notes.proofs.notice.put_out.Goals as goal
 
 pub returns : goal.returns
 returns c =
-    four_parts c.args.text.now.items c.extend_from_slice.new.self.items c.extend_from_slice-2.new.self.items c.extend_from_slice-3.new.self.items c.extend_from_slice-4.new.self.items
+    four_parts c.args.text.now.items c.extend_from_slice.new.self.items c.extend_from_slice-2.new.self.items
+    c.extend_from_slice-3.new.self.items c.extend_from_slice-4.new.self.items
     (codes "#!/bin/sh\n# at notice\nout=\"${0%/*}.out/") c.args.job.now.file (codes "\"\n") (guard_line c.args.job.now.always)
     c.in_ok-extend_from_slice.ensures.items
     (c.in_ok-extend_from_slice-2.ensures.items ∙ ap (λ t. c.extend_from_slice.new.self.items ++ t) c.as_bytes.ensures.bytes)

@@ -27,8 +27,10 @@ ended-requires-clause-started g c =
     let child : IsChildAt c.loop-count.kids.items c.loop-count.place c.child_at-child.result =
     subst (λ (l : List Kid). IsChildAt l c.loop-count.place c.child_at-child.result) c.as_slice.ensures.value c.child_at-child.ensures in
     subst (Contains (g.H.Host.session c.loop-count.host).children) (sym child.is)
-    (child_held (g.H.Host.session c.args.host.now).children (g.H.Host.session c.loop-count.host).children g.H.Host.tells c.args.kids.now.items c.loop-count._count c.loop-count.place
-    c.loop-count.kids.items (g.H.Host.world c.args.host.now) (g.H.Host.world c.loop-count.host) c.loop-count.invariant.has c.requires.children c.loop-count.invariant.inside.children
+    (child_held (g.H.Host.session c.args.host.now).children (g.H.Host.session c.loop-count.host).children g.H.Host.tells
+    c.args.kids.now.items c.loop-count._count c.loop-count.place
+    c.loop-count.kids.items (g.H.Host.world c.args.host.now) (g.H.Host.world c.loop-count.host) c.loop-count.invariant.has
+    c.requires.children c.loop-count.invariant.inside.children
     (place_inside g.H.Host.tells c.args.kids.now.items c.loop-count._count c.loop-count.place c.loop-count.kids.items
     (g.H.Host.world c.args.host.now) (g.H.Host.world c.loop-count.host) c.loop-count.invariant.has below) child.kid child.at)
 
@@ -50,19 +52,25 @@ loop-count-preserved g c =
     subst (λ (l : List Kid). IsChildAt l c.loop-count.place c.child_at-child.result) c.as_slice.ensures.value c.child_at-child.ensures in
     record {
       inside = search rules;
-      has = one_asked g.H.Host.tells c.args.kids.now.items c.loop-count._count c.loop-count.place c.pass-place.result c.loop-count.kids.items c.pass-place.new.kids.items
-          (g.H.Host.world c.args.host.now) (g.H.Host.world c.loop-count.host) (g.H.Host.world c.ended.new.self) child.kid c.in_ok-answer.answer below c.loop-count.invariant.has
+      has = one_asked g.H.Host.tells c.args.kids.now.items c.loop-count._count c.loop-count.place c.pass-place.result
+          c.loop-count.kids.items c.pass-place.new.kids.items
+          (g.H.Host.world c.args.host.now) (g.H.Host.world c.loop-count.host) (g.H.Host.world c.ended.new.self) child.kid
+          c.in_ok-answer.answer below c.loop-count.invariant.has
           child.at c.pass-place.ensures.place c.pass-place.ensures.kids
-          (λ known. subst (λ (of : Child). Asks of (g.H.Host.world c.loop-count.host) (g.H.Host.world c.ended.new.self) (Ok c.in_ok-answer.answer)) child.is (c.in_ok-answer.ensures.asked known));
+          (λ known. subst (λ (of : Child). Asks of (g.H.Host.world c.loop-count.host) (g.H.Host.world c.ended.new.self)
+          (Ok c.in_ok-answer.answer)) child.is (c.in_ok-answer.ensures.asked known));
     }
 
 pub returns-in_err-answer-clause-asks : goal.returns-in_err-answer-clause-asks
 returns-in_err-answer-clause-asks g c =
     let below : c.loop-count._count < length c.args.kids.now.items = omega (arith, ap length c.as_slice-count-end.ensures.value) in
-    some_asked g.H.Host.tells c.args.kids.now.items c.loop-count._count c.loop-count.place c.loop-count.kids.items (g.H.Host.world c.args.host.now) (g.H.Host.world c.loop-count.host)
-    (g.H.Host.world c.ended.new.self) c.in_err-answer.field-0.0 c.from_residual.result c.from_residual.ensures.1 below c.loop-count.invariant.has (λ known. c.in_err-answer.ensures.asked known)
+    some_asked g.H.Host.tells c.args.kids.now.items c.loop-count._count c.loop-count.place c.loop-count.kids.items
+    (g.H.Host.world c.args.host.now) (g.H.Host.world c.loop-count.host)
+    (g.H.Host.world c.ended.new.self) c.in_err-answer.field-0.0 c.from_residual.result c.from_residual.ensures.1 below
+    c.loop-count.invariant.has (λ known. c.in_err-answer.ensures.asked known)
 
 pub returns-clause-asks : goal.returns-clause-asks
 returns-clause-asks g c =
     let whole : c.loop-count._count ≡ length c.args.kids.now.items = omega (arith, ap length c.as_slice-count-end.ensures.value) in
-    all_asked g.H.Host.tells c.args.kids.now.items c.loop-count._count c.loop-count.place c.loop-count.kids.items (g.H.Host.world c.args.host.now) (g.H.Host.world c.loop-count.host) whole c.loop-count.invariant.has
+    all_asked g.H.Host.tells c.args.kids.now.items c.loop-count._count c.loop-count.place c.loop-count.kids.items
+    (g.H.Host.world c.args.host.now) (g.H.Host.world c.loop-count.host) whole c.loop-count.invariant.has

@@ -8,8 +8,10 @@ use Rattle.mail_session.proofs.new_jobs.live_numbers.Goals as goal
 
 pub returns-clause-numbers : goal.returns-clause-numbers
 returns-clause-numbers c =
-    c.in_ok-numbers.ensures ∙ ap (map (λ (row : Row). row.number)) (sym (rows_listed c.args.store.now.table c.rows.result.now c.rows.ensures.rows))
+    c.in_ok-numbers.ensures
+    ∙ ap (map (λ (row : Row). row.number)) (sym (rows_listed c.args.store.now.table c.rows.result.now c.rows.ensures.rows))
 
 pub returns-clause-live : goal.returns-clause-live
 returns-clause-live c =
-    subst (All (IsLive c.args.store.now.table)) (sym c.in_ok-numbers.ensures) (all_live c.args.store.now.table c.rows.result.now c.rows.ensures.rows)
+    subst (All (IsLive c.args.store.now.table)) (sym c.in_ok-numbers.ensures)
+    (all_live c.args.store.now.table c.rows.result.now c.rows.ensures.rows)

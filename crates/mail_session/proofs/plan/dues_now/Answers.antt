@@ -9,5 +9,6 @@ pub returns : goal.returns
 returns c = λ notes of. record {
   jobs = c.in_ok-jobs.jobs.items;
   waiting = c.in_ok-jobs.ensures notes of;
-  dues_are = c.in_ok-due_notices.ensures ∙ ap (λ (jobs : List NotedJob). filter_map (λ (job : NotedJob). due_of_entry job (entry_at c.args.store.now.table job.number)) jobs) c.as_slice.ensures.value;
+  dues_are = c.in_ok-due_notices.ensures ∙ ap (λ (jobs : List NotedJob).
+      filter_map (λ (job : NotedJob). due_of_entry job (entry_at c.args.store.now.table job.number)) jobs) c.as_slice.ensures.value;
 }

@@ -29,15 +29,22 @@ returns-clause-plans g c =
     record {
       notes = read.notes;
       plan_for = plan_for c.args.store.now.table
-          (record { new_jobs = c.in_ok-new_jobs.new_jobs; due_notices = c.in_ok-due_notices.due_notices; text = c.add_note_lines.new.text; stale = c.in_ok-stale.stale })
-          c.in_ok-text.field-0.text.items c.in_ok-text.field-0.notice_states read c.in_ok-new_jobs.ensures.numbers c.in_ok-due_notices.ensures text;
+          (record {
+            new_jobs = c.in_ok-new_jobs.new_jobs;
+            due_notices = c.in_ok-due_notices.due_notices;
+            text = c.add_note_lines.new.text;
+            stale = c.in_ok-stale.stale;
+          })
+          c.in_ok-text.field-0.text.items c.in_ok-text.field-0.notice_states read c.in_ok-new_jobs.ensures.numbers
+          c.in_ok-due_notices.ensures text;
       plan_in = λ known table current. record {
         gives = gives_notes (finite.get (reading (g.H.Host.world c.args.host.now)) mail_file) c.in_ok-text.field-0.text.items read.notes
             read.lines (c.in_ok-text.ensures.text known);
         noted = subst (λ (world : World). All (IsNotedFrom (reading world) table) c.in_ok-new_jobs.new_jobs.items)
             (c.in_ok-text.ensures.looks known)
             (c.in_ok-new_jobs.ensures.noted known table
-            (subst (λ (world : World). IsCurrent c.args.store.now world.now.directory table) (sym (c.in_ok-text.ensures.looks known)) current));
+            (subst (λ (world : World). IsCurrent c.args.store.now world.now.directory table)
+            (sym (c.in_ok-text.ensures.looks known)) current));
         stale = c.in_ok-stale.ensures.names known
             ∙ ap (λ (world : World). stale_names c.args.kids.now (reading world)) (opened known);
       };

@@ -6,6 +6,7 @@ use Rattle.memory_host.proofs.changes.settle_each.Goals as goal
 pub loop-change-preserved : goal.loop-change-preserved
 loop-change-preserved c = record {
   now = λ name. c.settle_change.ensures.now name ∙ c.loop-change.invariant.now name;
-  durable = λ name. each_step c.args.changes.now c.loop-change.change-index c.change-item.result c.loop-change-test.true c.change-item.is (now_in c.args.held.now) (durable_in c.args.held.now) name _ _ _
+  durable = λ name. each_step c.args.changes.now c.loop-change.change-index c.change-item.result c.loop-change-test.true c.change-item.is
+      (now_in c.args.held.now) (durable_in c.args.held.now) name _ _ _
       (c.settle_change.ensures.durable name) (c.loop-change.invariant.now name) (c.loop-change.invariant.durable name);
 }

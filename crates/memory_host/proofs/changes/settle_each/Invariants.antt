@@ -5,5 +5,6 @@ use Rattle.memory_host.proofs.changes.settle_each.Given as goal
 abbrev pub invariant-loop-change : goal.invariant-loop-change
 invariant-loop-change l = record {
   now : HoldsSameNow l.initial.held l.held;
-  durable : (name : List ℕ) → durable_in l.held name ≡ where_touched (take l.change-index l.changes) (now_in l.initial.held) (durable_in l.initial.held) name;
+  durable : (name : List ℕ)
+      → durable_in l.held name ≡ where_touched (take l.change-index l.changes) (now_in l.initial.held) (durable_in l.initial.held) name;
 }

@@ -7,6 +7,7 @@ pub loop-change-preserved : goal.loop-change-preserved
 loop-change-preserved c = record {
   durable = λ name. c.undo_change.ensures.durable name ∙ c.loop-change.invariant.durable name;
   places = λ name. c.undo_change.ensures.places name ∙ c.loop-change.invariant.places name;
-  now = λ name. each_step c.args.changes.now c.loop-change.change-index c.change-item.result c.loop-change-test.true c.change-item.is (durable_in c.args.held.now) (now_in c.args.held.now) name _ _ _
+  now = λ name. each_step c.args.changes.now c.loop-change.change-index c.change-item.result c.loop-change-test.true c.change-item.is
+      (durable_in c.args.held.now) (now_in c.args.held.now) name _ _ _
       (c.undo_change.ensures.now name) (c.loop-change.invariant.durable name) (c.loop-change.invariant.now name);
 }

@@ -6,5 +6,6 @@ abbrev pub invariant-loop-change : goal.invariant-loop-change
 invariant-loop-change l = record {
   durable : HoldsSameDurable l.initial.held l.held;
   places : KeepsPlaces l.initial.held l.held;
-  now : (name : List ℕ) → now_in l.held name ≡ where_touched (take l.change-index l.changes) (durable_in l.initial.held) (now_in l.initial.held) name;
+  now : (name : List ℕ)
+      → now_in l.held name ≡ where_touched (take l.change-index l.changes) (durable_in l.initial.held) (now_in l.initial.held) name;
 }

@@ -12,7 +12,8 @@ value : (c : goal.After-min) → c.min.result ≡ reduce earlier_of (places_of (
 value c =
     reduce_from_yields_List earlier_of _ _ c.min.ensures.ran
     (YieldsList-from_map _ place_in_queue
-    (YieldsList-from_filter _ (is_ready_batch c.args.now) (YieldsList-from_slice c.args.rows.now cc) (ap filter_callee c.map.ensures.source ∙ c.filter.ensures.closure) (λ x b q k. search (rules, tests)))
+    (YieldsList-from_filter _ (is_ready_batch c.args.now) (YieldsList-from_slice c.args.rows.now cc) (ap filter_callee c.map.ensures.source
+    ∙ c.filter.ensures.closure) (λ x b q k. search (rules, tests)))
     c.map.ensures.closure (λ x r q k. search (rules, tests)))
 
 pub returns : goal.returns

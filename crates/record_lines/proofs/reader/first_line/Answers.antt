@@ -5,7 +5,8 @@ use Rattle.record_lines.proofs.LineLemmas.{line_ends, no_line_ends}
 use Rattle.record_lines.proofs.reader.first_line.Goals as goal
 
 pub returns-in_err-end-clause-bad : goal.returns-in_err-end-clause-bad
-returns-in_err-end-clause-bad g c = rw c.from_residual.ensures (λ before tells. no_newline (no_line_ends c.args.rest.now (sym c.in_err-end.ensures)))
+returns-in_err-end-clause-bad g c =
+    rw c.from_residual.ensures (λ before tells. no_newline (no_line_ends c.args.rest.now (sym c.in_err-end.ensures)))
 
 pub returns-in_err-one-clause-bad : goal.returns-in_err-one-clause-bad
 returns-in_err-one-clause-bad g c = rw c.from_residual-in_err-one.ensures (λ before tells.

@@ -13,7 +13,8 @@ returns-in_default-clause-damaged g c offset same =
       records = loop.records.items;
       before = loop.invariant.1;
       inside = c.loop-offset-test.true;
-      bad = subst (HasBadFirstLine spells legal loop.records.items) (range_left c.args.bytes.now loop.offset) (c.in_default.ensures.bad loop.records.items loop.invariant.2);
+      bad = subst (HasBadFirstLine spells legal loop.records.items) (range_left c.args.bytes.now loop.offset)
+          (c.in_default.ensures.bad loop.records.items loop.invariant.2);
     })
 
 pub loop-offset-preserved : goal.loop-offset-preserved
@@ -23,7 +24,8 @@ loop-offset-preserved g c =
     let loop = c.loop-offset in
     let first = c.in-Some.first in
     let good : IsGoodLine spells legal loop.records.items (drop loop.offset c.args.bytes.now) first.one first.length =
-    subst (λ rest. IsGoodLine spells legal loop.records.items rest first.one first.length) (range_left c.args.bytes.now loop.offset) (c.in-Some.ensures.good loop.records.items loop.invariant.2) in
+    subst (λ rest. IsGoodLine spells legal loop.records.items rest first.one first.length) (range_left c.args.bytes.now loop.offset)
+    (c.in-Some.ensures.good loop.records.items loop.invariant.2) in
     let counted = good.counted in
     rw c.in_ok-keep_record.ensures.records (
       omega (arith, length-drop loop.offset c.args.bytes.now),

@@ -18,9 +18,12 @@ loop-turn-init g c = record {
   errors_made = refl;
   items = [];
   all = refl;
-  has = nothing_served (telling g.H.Host.tells g.H.Host.alone g.R.Readings.tells false g.O.Sink.tells g.E.Sink.tells) c.args.once c.new-progress.result
-      (serve_at (g.H.Host.session c.args.host.now) (g.H.Host.world c.args.host.now) c.args.daemon.now (g.R.Readings.answers c.args.readings.now) (g.R.Readings.readers c.args.readings.now))
-      (sink_at (g.O.Sink.content c.args.out.now) (g.O.Sink.outlet c.args.out.now)) (sink_at (g.E.Sink.content c.args.err.now) (g.E.Sink.outlet c.args.err.now)) c.new-progress.ensures;
+  has = nothing_served (telling g.H.Host.tells g.H.Host.alone g.R.Readings.tells false g.O.Sink.tells g.E.Sink.tells)
+      c.args.once c.new-progress.result
+      (serve_at (g.H.Host.session c.args.host.now) (g.H.Host.world c.args.host.now) c.args.daemon.now
+      (g.R.Readings.answers c.args.readings.now) (g.R.Readings.readers c.args.readings.now))
+      (sink_at (g.O.Sink.content c.args.out.now) (g.O.Sink.outlet c.args.out.now))
+      (sink_at (g.E.Sink.content c.args.err.now) (g.E.Sink.outlet c.args.err.now)) c.new-progress.ensures;
 }
 
 pub next_turn-requires-clause-outside : goal.next_turn-requires-clause-outside
@@ -40,7 +43,8 @@ loop-turn-preserved g c =
       out_made = c.next_turn.ensures.out_made ∙ c.loop-turn.invariant.out_made;
       errors_made = c.next_turn.ensures.errors_made ∙ c.loop-turn.invariant.errors_made;
       items = c.loop-turn.invariant.items ++ more.0 ∷ [];
-      all = (let longer : length (c.loop-turn.invariant.items ++ more.0 ∷ []) ≡ length c.loop-turn.invariant.items + 1 = one_longer c.loop-turn.invariant.items more.0 in
+      all = (let longer : length (c.loop-turn.invariant.items ++ more.0 ∷ []) ≡ length c.loop-turn.invariant.items + 1 =
+          one_longer c.loop-turn.invariant.items more.0 in
           let before : length c.loop-turn.invariant.items ≡ c.loop-turn._turn = c.loop-turn.invariant.all in omega arith);
       has = more.1;
     }
@@ -94,7 +98,8 @@ returns-clause-errors_made g c = c.loop-turn.invariant.errors_made
 
 pub returns-clause-ends : goal.returns-clause-ends
 returns-clause-ends g c =
-    ended_made (telling g.H.Host.tells g.H.Host.alone g.R.Readings.tells false g.O.Sink.tells g.E.Sink.tells) c.args.once c.loop-turn.invariant.items c.loop-turn.progress _ _ _ _ _ _
+    ended_made (telling g.H.Host.tells g.H.Host.alone g.R.Readings.tells false g.O.Sink.tells g.E.Sink.tells) c.args.once
+    c.loop-turn.invariant.items c.loop-turn.progress _ _ _ _ _ _
     c.loop-turn.invariant.has c.args.turns c.outcome.result
     (let before : length c.loop-turn.invariant.items ≡ c.loop-turn._turn = c.loop-turn.invariant.all in omega arith)
     (rw c.kids.ensures.kids at c.outcome.ensures)

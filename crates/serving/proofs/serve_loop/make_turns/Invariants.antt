@@ -20,8 +20,10 @@ invariant-loop-turn g l = record {
   items : List TurnItem;
   all : length items ≡ l._turn;
   has : HasServed (telling g.H.Host.tells g.H.Host.alone g.R.Readings.tells false g.O.Sink.tells g.E.Sink.tells) l.once items l.progress
-      (serve_at (g.H.Host.session l.fn.host) (g.H.Host.world l.fn.host) l.fn.daemon (g.R.Readings.answers l.fn.readings) (g.R.Readings.readers l.fn.readings))
-      (serve_at (g.H.Host.session l.host) (g.H.Host.world l.host) l.daemon (g.R.Readings.answers l.readings) (g.R.Readings.readers l.readings))
+      (serve_at (g.H.Host.session l.fn.host) (g.H.Host.world l.fn.host) l.fn.daemon (g.R.Readings.answers l.fn.readings)
+      (g.R.Readings.readers l.fn.readings))
+      (serve_at (g.H.Host.session l.host) (g.H.Host.world l.host) l.daemon (g.R.Readings.answers l.readings)
+      (g.R.Readings.readers l.readings))
       (sink_at (g.O.Sink.content l.fn.out) (g.O.Sink.outlet l.fn.out)) (sink_at (g.O.Sink.content l.out) (g.O.Sink.outlet l.out))
       (sink_at (g.E.Sink.content l.fn.err) (g.E.Sink.outlet l.fn.err)) (sink_at (g.E.Sink.content l.err) (g.E.Sink.outlet l.err));
 }

@@ -16,11 +16,13 @@ pub returns-clause-faults : goal.returns-clause-faults
 returns-clause-faults g c = rw c.of.ensures (
     let risen = risen_by c.say_serve_outcome.result _ _ (sink_at (g.O.Sink.content c.args.out.now) (g.O.Sink.outlet c.args.out.now))
     (sink_at (g.O.Sink.content c.make_turns-outcome.new.out) (g.O.Sink.outlet c.make_turns-outcome.new.out))
-    (ended_caused _ _ _ _ _ _ _ _ _ _ c.make_turns-outcome.result c.say_serve_outcome.result c.make_turns-outcome.ensures.ends c.say_serve_outcome.ensures.says) in
+    (ended_caused _ _ _ _ _ _ _ _ _ _ c.make_turns-outcome.result c.say_serve_outcome.result c.make_turns-outcome.ensures.ends
+    c.say_serve_outcome.ensures.says) in
     record { file_fault = risen.0; busy = risen.1; input_fault = λ is. absurd (risen.3 is); output_fault = risen.2 })
 
 pub returns-clause-serving : goal.returns-clause-serving
-returns-clause-serving g c = rw c.of.ensures (serving_of _ _ _ _ _ _ _ _ _ _ c.make_turns-outcome.result c.say_serve_outcome.result c.make_turns-outcome.ensures.ends c.say_serve_outcome.ensures.says)
+returns-clause-serving g c = rw c.of.ensures (serving_of _ _ _ _ _ _ _ _ _ _ c.make_turns-outcome.result c.say_serve_outcome.result
+    c.make_turns-outcome.ensures.ends c.say_serve_outcome.ensures.says)
 
 pub returns-clause-made : goal.returns-clause-made
 returns-clause-made g c = record {

@@ -9,15 +9,18 @@ use Rattle.spool_check.proofs.copying.copy.Goals as goal
 pub returns-in_err-bytes-clause-to : goal.returns-in_err-bytes-clause-to
 returns-in_err-bytes-clause-to g c =
     unmoved ToFailed (g.G.Host.session c.args.to.now) c.from_residual.result c.requires.inside_to
-    (no_other c.in_err-bytes.field-0.0 ToFailed c.from_residual.result (source_not_target c.in_err-bytes.field-0.0 c.in_err-bytes.ensures.of) c.from_residual.ensures.1)
+    (no_other c.in_err-bytes.field-0.0 ToFailed c.from_residual.result
+    (source_not_target c.in_err-bytes.field-0.0 c.in_err-bytes.ensures.of) c.from_residual.ensures.1)
 
 pub returns-in_err-bytes-clause-other : goal.returns-in_err-bytes-clause-other
 returns-in_err-bytes-clause-other g c =
-    no_other c.in_err-bytes.field-0.0 NotEmpty c.from_residual.result (source_not_empty c.in_err-bytes.field-0.0 c.in_err-bytes.ensures.of) c.from_residual.ensures.1
+    no_other c.in_err-bytes.field-0.0 NotEmpty c.from_residual.result (source_not_empty c.in_err-bytes.field-0.0 c.in_err-bytes.ensures.of)
+    c.from_residual.ensures.1
 
 pub returns-clause-from : goal.returns-clause-from
 returns-clause-from g c =
-    calls_unless FromFailed (g.H.Host.session c.args.from.now) (g.H.Host.session c.bytes_of.new.from) (Ok c.in_ok-bytes.bytes) c.place_whole.result
+    calls_unless FromFailed (g.H.Host.session c.args.from.now) (g.H.Host.session c.bytes_of.new.from)
+    (Ok c.in_ok-bytes.bytes) c.place_whole.result
     c.in_ok-bytes.ensures.inside (no_fault FromFailed IsTargetFault c.place_whole.result target_not_source c.place_whole.ensures.of)
 
 pub returns-clause-other : goal.returns-clause-other
@@ -25,4 +28,5 @@ returns-clause-other g c = no_fault NotEmpty IsTargetFault c.place_whole.result 
 
 pub returns-clause-files : goal.returns-clause-files
 returns-clause-files g c = λ tells.
-    placing_alone temporary_file c.args.name.now c.as_slice.result.now (g.G.Host.world c.args.to.now) (g.G.Host.world c.place_whole.new.to) (c.place_whole.ensures.files tells)
+    placing_alone temporary_file c.args.name.now c.as_slice.result.now (g.G.Host.world c.args.to.now) (g.G.Host.world c.place_whole.new.to)
+    (c.place_whole.ensures.files tells)

@@ -14,7 +14,9 @@ invariant-loop-name g l = record {
   inside_to : StaysInside (g.G.Host.session l.fn.to) (g.G.Host.session l.to);
   looks : IsTrue g.H.Host.tells → g.H.Host.world l.from ≡ g.H.Host.world l.fn.from;
   no_temp : IsTrue g.G.Host.tells → IsInNoImage (g.G.Host.world l.to).now.directory temporary_file;
-  files : IsTrue g.G.Host.tells → ChangesFiles (LeavesOthers IsCopyName (g.G.Host.world l.fn.to).now.directory) (g.G.Host.world l.fn.to) (g.G.Host.world l.to);
-  copies : IsTrue g.H.Host.tells → IsTrue g.G.Host.tells → EachHasCopies (reading (g.H.Host.world l.fn.from)) [] (g.G.Host.world l.fn.to).now.directory
+  files : IsTrue g.G.Host.tells
+      → ChangesFiles (LeavesOthers IsCopyName (g.G.Host.world l.fn.to).now.directory) (g.G.Host.world l.fn.to) (g.G.Host.world l.to);
+  copies : IsTrue g.H.Host.tells → IsTrue g.G.Host.tells
+      → EachHasCopies (reading (g.H.Host.world l.fn.from)) [] (g.G.Host.world l.fn.to).now.directory
       → EachHasCopies (reading (g.H.Host.world l.fn.from)) (take l.name-index l.names) (g.G.Host.world l.to).now.directory;
 }

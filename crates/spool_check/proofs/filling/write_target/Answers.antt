@@ -14,27 +14,34 @@ place_whole-requires-clause-no_temp g c = λ tells. bare_temp (g.G.Host.world c.
 pub returns-in_err-place_whole-clause-from : goal.returns-in_err-place_whole-clause-from
 returns-in_err-place_whole-clause-from g c =
     unmoved FromFailed (g.H.Host.session c.args.from.now) c.from_residual.result c.requires.inside_from
-    (no_other c.in_err-place_whole.field-0.0 FromFailed c.from_residual.result (target_not_source c.in_err-place_whole.field-0.0 c.in_err-place_whole.ensures.of) c.from_residual.ensures.1)
+    (no_other c.in_err-place_whole.field-0.0 FromFailed c.from_residual.result
+    (target_not_source c.in_err-place_whole.field-0.0 c.in_err-place_whole.ensures.of) c.from_residual.ensures.1)
 
 pub returns-in_err-place_whole-clause-files : goal.returns-in_err-place_whole-clause-files
 returns-in_err-place_whole-clause-files g c = λ tells told.
-    journal_leaves (reading (g.H.Host.world c.args.from.now)) c.journal_name.result c.args.journal.now (g.G.Host.world c.args.to.now) (g.G.Host.world c.place_whole.new.to) c.journal_name.ensures (c.requires.bare told) (c.in_err-place_whole.ensures.files told)
+    journal_leaves (reading (g.H.Host.world c.args.from.now)) c.journal_name.result c.args.journal.now (g.G.Host.world c.args.to.now)
+    (g.G.Host.world c.place_whole.new.to) c.journal_name.ensures (c.requires.bare told) (c.in_err-place_whole.ensures.files told)
 
 pub copy_all-requires-clause-named : goal.copy_all-requires-clause-named
-copy_all-requires-clause-named g c = λ tells. plan_named (reading (g.H.Host.world c.args.from.now)) c.args.names.now c.args.journal.now c.args.sequence.now (c.requires.plan tells)
+copy_all-requires-clause-named g c = λ tells.
+    plan_named (reading (g.H.Host.world c.args.from.now)) c.args.names.now c.args.journal.now c.args.sequence.now (c.requires.plan tells)
 
 pub copy_all-requires-clause-held : goal.copy_all-requires-clause-held
-copy_all-requires-clause-held g c = λ tells. plan_held (reading (g.H.Host.world c.args.from.now)) c.args.names.now c.args.journal.now c.args.sequence.now (c.requires.plan tells)
+copy_all-requires-clause-held g c = λ tells.
+    plan_held (reading (g.H.Host.world c.args.from.now)) c.args.names.now c.args.journal.now c.args.sequence.now (c.requires.plan tells)
 
 pub returns-in_err-copy_all-clause-files : goal.returns-in_err-copy_all-clause-files
 returns-in_err-copy_all-clause-files g c = λ tells told.
-    copying_leaves (reading (g.H.Host.world c.args.from.now)) c.args.journal.now (g.G.Host.world c.args.to.now) (g.G.Host.world c.place_whole.new.to) (g.G.Host.world c.copy_all.new.to) (c.requires.bare told)
-    (has_put c.journal_name.result journal_file c.args.journal.now (g.G.Host.world c.args.to.now) (g.G.Host.world c.place_whole.new.to) c.journal_name.ensures (c.in_ok-place_whole.ensures.files told) (c.in_ok-place_whole.ensures.placed told))
+    copying_leaves (reading (g.H.Host.world c.args.from.now)) c.args.journal.now (g.G.Host.world c.args.to.now)
+    (g.G.Host.world c.place_whole.new.to) (g.G.Host.world c.copy_all.new.to) (c.requires.bare told)
+    (has_put c.journal_name.result journal_file c.args.journal.now (g.G.Host.world c.args.to.now) (g.G.Host.world c.place_whole.new.to)
+    c.journal_name.ensures (c.in_ok-place_whole.ensures.files told) (c.in_ok-place_whole.ensures.placed told))
     (c.in_err-copy_all.ensures.files told)
 
 pub returns-clause-from : goal.returns-clause-from
 returns-clause-from g c =
-    calls_unless FromFailed (g.H.Host.session c.args.from.now) (g.H.Host.session c.copy_all.new.from) c.copy_all.result c.place_whole-2.result
+    calls_unless FromFailed (g.H.Host.session c.args.from.now) (g.H.Host.session c.copy_all.new.from)
+    c.copy_all.result c.place_whole-2.result
     c.copy_all.ensures.from (no_fault FromFailed IsTargetFault c.place_whole-2.result target_not_source c.place_whole-2.ensures.of)
 
 pub returns-clause-other : goal.returns-clause-other
@@ -46,9 +53,11 @@ returns-clause-files g c = λ tells told.
     let start = g.G.Host.world c.args.to.now in
     let first = g.G.Host.world c.place_whole.new.to in
     let second = g.G.Host.world c.copy_all.new.to in
-    sequence_leaves files c.args.names.now c.args.journal.now c.args.sequence.now c.sequence_name.result start second (g.G.Host.world c.place_whole-2.new.to) c.sequence_name.ensures (c.requires.plan tells)
+    sequence_leaves files c.args.names.now c.args.journal.now c.args.sequence.now c.sequence_name.result start second
+    (g.G.Host.world c.place_whole-2.new.to) c.sequence_name.ensures (c.requires.plan tells)
     (is_filled files c.args.names.now c.args.journal.now start first second (c.requires.bare told)
-    (has_put c.journal_name.result journal_file c.args.journal.now start first c.journal_name.ensures (c.in_ok-place_whole.ensures.files told) (c.in_ok-place_whole.ensures.placed told))
+    (has_put c.journal_name.result journal_file c.args.journal.now start first c.journal_name.ensures
+    (c.in_ok-place_whole.ensures.files told) (c.in_ok-place_whole.ensures.placed told))
     (c.in_ok-copy_all.ensures.files told) (c.in_ok-copy_all.ensures.copies tells told))
     (c.place_whole-2.ensures.files told)
 
@@ -58,8 +67,10 @@ returns-clause-salvaged g c = λ tells told.
     let start = g.G.Host.world c.args.to.now in
     let first = g.G.Host.world c.place_whole.new.to in
     let second = g.G.Host.world c.copy_all.new.to in
-    sequence_holds files c.args.names.now c.args.journal.now c.args.sequence.now c.sequence_name.result start second (g.G.Host.world c.place_whole-2.new.to) c.place_whole-2.result c.sequence_name.ensures (c.requires.bare told) (c.requires.plan tells)
+    sequence_holds files c.args.names.now c.args.journal.now c.args.sequence.now c.sequence_name.result start second
+    (g.G.Host.world c.place_whole-2.new.to) c.place_whole-2.result c.sequence_name.ensures (c.requires.bare told) (c.requires.plan tells)
     (is_filled files c.args.names.now c.args.journal.now start first second (c.requires.bare told)
-    (has_put c.journal_name.result journal_file c.args.journal.now start first c.journal_name.ensures (c.in_ok-place_whole.ensures.files told) (c.in_ok-place_whole.ensures.placed told))
+    (has_put c.journal_name.result journal_file c.args.journal.now start first c.journal_name.ensures
+    (c.in_ok-place_whole.ensures.files told) (c.in_ok-place_whole.ensures.placed told))
     (c.in_ok-copy_all.ensures.files told) (c.in_ok-copy_all.ensures.copies tells told))
     (c.place_whole-2.ensures.files told) (c.place_whole-2.ensures.placed told)

@@ -9,6 +9,7 @@ pub returns-clause-ends : goal.returns-clause-ends
 returns-clause-ends g c = record {
   cause = c.check_by_words-cause.result;
   does = c.check_by_words-cause.ensures.does;
-  says = subst (λ (final : Cause). IsSaid (codes "atcheck") g.E.Sink.tells c.check_by_words-cause.result (stream_at g.E.Sink c.args.err.now).sink (stream_at g.E.Sink c.say_cause.new.err).sink final)
+  says = subst (λ (final : Cause). IsSaid (codes "atcheck") g.E.Sink.tells c.check_by_words-cause.result
+      (stream_at g.E.Sink c.args.err.now).sink (stream_at g.E.Sink c.say_cause.new.err).sink final)
       (sym (ap (λ (status : Status). status.cause) c.of.ensures)) c.say_cause.ensures.said;
 }

@@ -8,7 +8,8 @@ returns-in-Ok-clause-leaves g c = λ tells.
 
 pub returns-in-Ok-clause-settled : goal.returns-in-Ok-clause-settled
 returns-in-Ok-clause-settled g c = λ tells.
-    durable_of (g.G.Host.world c.args.to.now).now.directory (g.G.Host.world c.settle.new.self).now.directory (c.in-Ok.ensures.files tells).outcome
+    durable_of (g.G.Host.world c.args.to.now).now.directory (g.G.Host.world c.settle.new.self).now.directory
+    (c.in-Ok.ensures.files tells).outcome
 
 pub returns-in-Err-clause-leaves : goal.returns-in-Err-clause-leaves
 returns-in-Err-clause-leaves g c = λ tells.

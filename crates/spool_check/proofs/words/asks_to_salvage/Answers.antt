@@ -16,10 +16,12 @@ returns-then-is_empty c = sym (ap check_asked (no_words string_bytes c.args.word
 pub returns-in_err-matches : goal.returns-in_err-matches
 returns-in_err-matches c =
     with_name check_app salvage_asked string_bytes c.args.words.now _ (sym c.is_empty.ensures ∙ c.if-is_empty.false)
-    (asks_fails check_app salvage_asked (map string_bytes c.args.words.now) _ c.in_ok-command.ensures _ c.from_residual-in_err-matches.result c.in_err-matches.ensures c.from_residual-in_err-matches.ensures.1)
+    (asks_fails check_app salvage_asked (map string_bytes c.args.words.now) _ c.in_ok-command.ensures _
+    c.from_residual-in_err-matches.result c.in_err-matches.ensures c.from_residual-in_err-matches.ensures.1)
 
 pub returns : goal.returns
 returns c =
     with_name check_app salvage_asked string_bytes c.args.words.now (Ok c.has_flag.result) (sym c.is_empty.ensures ∙ c.if-is_empty.false)
-    (asks_taken check_app salvage_asked (map string_bytes c.args.words.now) _ c.in_ok-command.ensures c.in_ok-matches.matches (Ok c.has_flag.result) c.in_ok-matches.ensures
+    (asks_taken check_app salvage_asked (map string_bytes c.args.words.now) _ c.in_ok-command.ensures c.in_ok-matches.matches
+    (Ok c.has_flag.result) c.in_ok-matches.ensures
     (answers_same _ (Ok c.has_flag.result) (ap Ok c.has_flag.ensures)))

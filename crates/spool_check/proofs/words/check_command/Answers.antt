@@ -9,4 +9,5 @@ pub returns : goal.returns
 unfolding check_app
 returns c =
     let salvage = long_flag_rule (codes "salvage") in
-    made_with c.with_long_flag.result (app_of c.bare_command.result) check_app salvage c.with_long_flag.ensures (ap (with salvage) c.bare_command.ensures)
+    made_with c.with_long_flag.result (app_of c.bare_command.result) check_app salvage c.with_long_flag.ensures
+    (ap (with salvage) c.bare_command.ensures)

@@ -11,5 +11,6 @@ abbrev pub invariant-loop-name : goal.invariant-loop-name
 invariant-loop-name g l = record {
   inside : StaysInside (g.H.Host.session l.fn.host) (g.H.Host.session l.host);
   looks : IsTrue g.H.Host.tells → g.H.Host.world l.host ≡ g.H.Host.world l.fn.host;
-  found : IsTrue g.H.Host.tells → (marks : List Mark) → AreDecidedNumbers marks l.decided → files_found l.found.items ≡ job_files marks (map prefix_of (take l.name-index (entries (reading (g.H.Host.world l.fn.host)))));
+  found : IsTrue g.H.Host.tells → (marks : List Mark) → AreDecidedNumbers marks l.decided
+      → files_found l.found.items ≡ job_files marks (map prefix_of (take l.name-index (entries (reading (g.H.Host.world l.fn.host)))));
 }

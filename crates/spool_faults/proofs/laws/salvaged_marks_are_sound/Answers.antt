@@ -7,4 +7,5 @@ use Rattle.spool_faults.proofs.AddedMarks.{saved_sound}
 use Rattle.spool_faults.proofs.laws.salvaged_marks_are_sound.Goals as goal
 
 pub returns : goal.returns
-returns c files = saved_sound (last_in (find name_cmp sequence_file (entries files))) (find name_cmp journal_file (entries files)) (entries files)
+returns c files =
+    saved_sound (last_in (find name_cmp sequence_file (entries files))) (find name_cmp journal_file (entries files)) (entries files)

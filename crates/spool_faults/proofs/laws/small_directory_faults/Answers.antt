@@ -6,7 +6,8 @@ use Rattle.start_journal.specs.Taken.{faults_in, taken_of}
 use Rattle.spool_faults.proofs.laws.small_directory_faults.Goals as goal
 
 pub returns-clause-faults : goal.returns-clause-faults
-unfolding alike flag_alike has_user header_in header_place name_prefix user_in free_slot journal_in mark_in may_stand right_prefix faults_in taken_of
+unfolding alike flag_alike has_user header_in header_place name_prefix user_in free_slot journal_in mark_in may_stand
+    right_prefix faults_in taken_of
 returns-clause-faults c = record {
   undrawn_job = refl;
   rest = refl;
@@ -21,7 +22,8 @@ returns-clause-faults c = record {
 }
 
 pub returns-clause-salvaged : goal.returns-clause-salvaged
-unfolding alike flag_alike has_user header_in header_place name_prefix user_in free_slot journal_in mark_in may_stand right_prefix faults_in taken_of
+unfolding alike flag_alike has_user header_in header_place name_prefix user_in free_slot journal_in mark_in may_stand
+    right_prefix faults_in taken_of
 returns-clause-salvaged c = record {
   undrawn_job = refl;
   rest = refl;

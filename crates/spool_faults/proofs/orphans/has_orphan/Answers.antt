@@ -6,4 +6,5 @@ use Rattle.spool_faults.proofs.orphans.has_orphan.Goals as goal
 
 pub returns : goal.returns
 returns c = λ all files decided queues.
-    any_from_yields_List (is_orphan c.args.last all files) _ _ _ c.any.ensures.ran (YieldsList-from_slice c.args.marks.now cc) (λ x b q k. search (rules, tests))
+    any_from_yields_List (is_orphan c.args.last all files) _ _ _ c.any.ensures.ran (YieldsList-from_slice c.args.marks.now cc)
+    (λ x b q k. search (rules, tests))

@@ -6,7 +6,10 @@ use Rattle.spool_faults.proofs.plan.greatest_mark.Goals as goal
 
 pub loop-mark-preserved : goal.loop-mark-preserved
 loop-mark-preserved c =
-    greatest_step number_of_mark c.args.marks.now c.loop-mark.mark-index _ c.loop-mark.last c.greater-last.result (greatest c.args.least (filter_map number_of_mark c.args.marks.now)) c.number.result c.loop-mark-test.true c.loop-mark.invariant c.greater-last.ensures c.number.ensures
+    greatest_step number_of_mark c.args.marks.now c.loop-mark.mark-index _ c.loop-mark.last c.greater-last.result
+    (greatest c.args.least (filter_map number_of_mark c.args.marks.now)) c.number.result c.loop-mark-test.true c.loop-mark.invariant
+    c.greater-last.ensures c.number.ensures
 
 pub returns : goal.returns
-returns c = greatest_end number_of_mark c.args.marks.now c.loop-mark.mark-index c.loop-mark.last (greatest c.args.least (filter_map number_of_mark c.args.marks.now)) c.loop-mark-test.false c.loop-mark.invariant
+returns c = greatest_end number_of_mark c.args.marks.now c.loop-mark.mark-index c.loop-mark.last
+    (greatest c.args.least (filter_map number_of_mark c.args.marks.now)) c.loop-mark-test.false c.loop-mark.invariant

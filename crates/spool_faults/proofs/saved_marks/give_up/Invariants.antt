@@ -10,5 +10,6 @@ use Rattle.spool_faults.proofs.saved_marks.give_up.Given as goal
 abbrev pub invariant-loop-mark : goal.invariant-loop-mark
 invariant-loop-mark l = record {
   writable : AreWritable l.marks → AreWritable l.fn.saved.items → AreWritable l.saved.items;
-  saved : (all : List Mark) (files : List JobFile) → AreDecidedNumbers all l.decided → AreQueues files l.queues → l.saved.items ≡ l.fn.saved.items ++ filter_map (given_up all files) (take l.mark-index l.marks);
+  saved : (all : List Mark) (files : List JobFile) → AreDecidedNumbers all l.decided → AreQueues files l.queues
+      → l.saved.items ≡ l.fn.saved.items ++ filter_map (given_up all files) (take l.mark-index l.marks);
 }

@@ -16,7 +16,8 @@ use Rattle.spool_faults.proofs.scan.scan_spool.Goals as goal
 
 pub returns-clause-writable : goal.returns-clause-writable
 returns-clause-writable g c =
-    marks_writable c.in_ok-journal.journal c.as_slice-3.result.now c.in_ok-marks.marks.items (c.as_slice-3.ensures.value ∙ c.in_ok-taken.ensures.marks) c.in_ok-marks.ensures
+    marks_writable c.in_ok-journal.journal c.as_slice-3.result.now c.in_ok-marks.marks.items (c.as_slice-3.ensures.value
+    ∙ c.in_ok-taken.ensures.marks) c.in_ok-marks.ensures
 
 pub returns-clause-faults : goal.returns-clause-faults
 returns-clause-faults g c = λ tells.
@@ -28,17 +29,22 @@ returns-clause-faults g c = λ tells.
     let first : g.H.Host.world c.content_among.new.host ≡ g.H.Host.world c.args.host.now = c.in_ok-sequence.ensures.looks tells ∙ listing in
     let world : g.H.Host.world c.content_among-2.new.host ≡ g.H.Host.world c.args.host.now = c.in_ok-journal.ensures.looks tells ∙ first in
     let number : last ≡ last_in (finite.get files sequence_file) =
-    c.sequence_number-number.ensures ∙ ap last_in (c.in_ok-sequence.ensures.content tells ∙ ap (λ (now : World). finite.get (reading now) c.sequence_name.result) listing ∙ ap (finite.get files) c.sequence_name.ensures) in
+    c.sequence_number-number.ensures ∙ ap last_in (c.in_ok-sequence.ensures.content tells
+    ∙ ap (λ (now : World). finite.get (reading now) c.sequence_name.result) listing ∙ ap (finite.get files) c.sequence_name.ensures) in
     let held : journal ≡ finite.get files journal_file =
-    c.in_ok-journal.ensures.content tells ∙ ap (λ (now : World). finite.get (reading now) c.journal_name.result) first ∙ ap (finite.get files) c.journal_name.ensures in
+    c.in_ok-journal.ensures.content tells ∙ ap (λ (now : World). finite.get (reading now) c.journal_name.result) first
+    ∙ ap (finite.get files) c.journal_name.ensures in
     directory_noted files last journal c.args.faults.now.items c.note_jobs.new.faults.items number held
-    (all_noted last journal (finite.entries files) taken (bound_by last) c.args.faults.now.items c.note_sequence.new.faults.items c.take_journal.new.faults.items c.note_jobs.new.faults.items
+    (all_noted last journal (finite.entries files) taken (bound_by last) c.args.faults.now.items c.note_sequence.new.faults.items
+    c.take_journal.new.faults.items c.note_jobs.new.faults.items
     c.in_ok-note_sequence.ensures refl
     (c.in_ok-taken.ensures.faults ∙ ap (λ bound. c.note_sequence.new.faults.items ++ journal_faults bound journal) c.bound_of.ensures)
     (c.as_slice-6.ensures.value ∙ c.in_ok-taken.ensures.marks)
     (c.in_ok-firsts.ensures.faults tells
-    ∙ ap (λ (now : World). c.take_journal.new.faults.items ++ jobs_faults c.bound_of-2.result (marks_of taken) taken (finite.entries (reading now))) world
-    ∙ ap (λ bound. c.take_journal.new.faults.items ++ jobs_faults bound (marks_of taken) taken (finite.entries files)) c.bound_of-2.ensures))
+    ∙ ap (λ (now : World). c.take_journal.new.faults.items
+    ++ jobs_faults c.bound_of-2.result (marks_of taken) taken (finite.entries (reading now))) world
+    ∙ ap (λ bound. c.take_journal.new.faults.items ++ jobs_faults bound (marks_of taken) taken (finite.entries files))
+    c.bound_of-2.ensures))
 
 pub returns-clause-scan : goal.returns-clause-scan
 returns-clause-scan g c = λ tells.
@@ -47,16 +53,21 @@ returns-clause-scan g c = λ tells.
     let listing : g.H.Host.world c.names.new.self ≡ g.H.Host.world c.args.host.now = c.in_ok-names.ensures.looks tells in
     let first : g.H.Host.world c.content_among.new.host ≡ g.H.Host.world c.args.host.now = c.in_ok-sequence.ensures.looks tells ∙ listing in
     let world : g.H.Host.world c.content_among-2.new.host ≡ g.H.Host.world c.args.host.now = c.in_ok-journal.ensures.looks tells ∙ first in
-    let marks : c.in_ok-marks.marks.items ≡ marks_of taken = c.in_ok-marks.ensures ∙ ap marks_of (c.as_slice-3.ensures.value ∙ sym c.as_slice-6.ensures.value) in
+    let marks : c.in_ok-marks.marks.items ≡ marks_of taken = c.in_ok-marks.ensures
+    ∙ ap marks_of (c.as_slice-3.ensures.value ∙ sym c.as_slice-6.ensures.value) in
     record {
       number =
-          c.sequence_number-number.ensures ∙ ap last_in (c.in_ok-sequence.ensures.content tells ∙ ap (λ (now : World). finite.get (reading now) c.sequence_name.result) listing ∙ ap (finite.get files) c.sequence_name.ensures);
+          c.sequence_number-number.ensures ∙ ap last_in (c.in_ok-sequence.ensures.content tells
+          ∙ ap (λ (now : World). finite.get (reading now) c.sequence_name.result) listing ∙ ap (finite.get files) c.sequence_name.ensures);
       journal =
-          c.in_ok-journal.ensures.content tells ∙ ap (λ (now : World). finite.get (reading now) c.journal_name.result) first ∙ ap (finite.get files) c.journal_name.ensures;
+          c.in_ok-journal.ensures.content tells ∙ ap (λ (now : World). finite.get (reading now) c.journal_name.result) first
+          ∙ ap (finite.get files) c.journal_name.ensures;
       names = c.in_ok-names.ensures.listed tells;
       marks = c.in_ok-marks.ensures ∙ ap marks_of (c.as_slice-3.ensures.value ∙ c.in_ok-taken.ensures.marks);
       decided = subst (λ list. AreDecidedNumbers list c.in_ok-decided.decided) c.as_slice-4.ensures.value c.in_ok-decided.ensures;
       firsts =
-          subst (λ (list : List Mark). AreFirstFiles (filter has_header (job_files list (finite.entries files))) c.in_ok-firsts.firsts) (sym marks)
-          (subst (λ (now : World). AreFirstFiles (filter has_header (job_files (marks_of taken) (finite.entries (reading now)))) c.in_ok-firsts.firsts) world (c.in_ok-firsts.ensures.firsts tells));
+          subst (λ (list : List Mark). AreFirstFiles (filter has_header (job_files list (finite.entries files))) c.in_ok-firsts.firsts)
+          (sym marks)
+          (subst (λ (now : World). AreFirstFiles (filter has_header (job_files (marks_of taken) (finite.entries (reading now))))
+          c.in_ok-firsts.firsts) world (c.in_ok-firsts.ensures.firsts tells));
     }

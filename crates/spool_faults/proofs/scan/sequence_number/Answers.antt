@@ -7,4 +7,5 @@ pub returns-in-None : goal.returns-in-None
 returns-in-None c = sym (ap last_in c.in-None.is)
 
 pub returns-in-Some : goal.returns-in-Some
-returns-in-Some c = number_read c.args.content.now _ c.as_slice.result.now c.read_sequence.result c.in-Some.is c.as_slice.ensures c.read_sequence.ensures.number c.read_sequence.ensures.name c.read_sequence.ensures.damaged
+returns-in-Some c = number_read c.args.content.now _ c.as_slice.result.now c.read_sequence.result c.in-Some.is c.as_slice.ensures
+    c.read_sequence.ensures.number c.read_sequence.ensures.name c.read_sequence.ensures.damaged

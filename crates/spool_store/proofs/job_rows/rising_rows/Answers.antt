@@ -6,7 +6,8 @@ use Rattle.spool_store.proofs.ScanLemmas.{answer_fault, so_far_damage, scanned_a
 use Rattle.spool_store.proofs.job_rows.rising_rows.Goals as goal
 
 pub loop-file-init : goal.loop-file-init
-loop-file-init c = λ marks tells. rising_none c.args.last marks (files_scanned c.args.scanned.now) c.in_ok-rows.rows.items c.in_ok-rows.ensures.items
+loop-file-init c =
+    λ marks tells. rising_none c.args.last marks (files_scanned c.args.scanned.now) c.in_ok-rows.rows.items c.in_ok-rows.ensures.items
 
 pub returns-in_err-row : goal.returns-in_err-row
 returns-in_err-row c = λ marks tells.

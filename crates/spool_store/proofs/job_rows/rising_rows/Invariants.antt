@@ -6,4 +6,5 @@ use Rattle.spool_store.specs.inside.ScannedJobs.{files_scanned}
 use Rattle.spool_store.proofs.job_rows.rising_rows.Given as goal
 
 abbrev pub invariant-loop-file : goal.invariant-loop-file
-invariant-loop-file l = (marks : List Mark) → TellLifecycles marks l.lives → IsRisingSoFar l.last marks (files_scanned l.scanned) l.file-index l.above l.rows.items
+invariant-loop-file l = (marks : List Mark) → TellLifecycles marks l.lives
+    → IsRisingSoFar l.last marks (files_scanned l.scanned) l.file-index l.above l.rows.items

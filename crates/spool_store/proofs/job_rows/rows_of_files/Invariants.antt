@@ -6,4 +6,5 @@ use Rattle.spool_store.specs.inside.ScannedJobs.{files_scanned}
 use Rattle.spool_store.proofs.job_rows.rows_of_files.Given as goal
 
 abbrev pub invariant-loop-file : goal.invariant-loop-file
-invariant-loop-file l = (marks : List Mark) → TellLifecycles marks l.lives → IsScannedSoFar l.last marks (files_scanned l.scanned) l.file-index l.rows.entries
+invariant-loop-file l = (marks : List Mark) → TellLifecycles marks l.lives
+    → IsScannedSoFar l.last marks (files_scanned l.scanned) l.file-index l.rows.entries

@@ -12,10 +12,12 @@ pub returns-in_err-sync_names-clause-legal : goal.returns-in_err-sync_names-clau
 returns-in_err-sync_names-clause-legal g c = sound_is_legal _ c.args.journal c.journal.view_is c.journal.invariant
 
 pub returns-in_err-sync_names-clause-files : goal.returns-in_err-sync_names-clause-files
-returns-in_err-sync_names-clause-files g c = λ tells old_form table current. sync_stepping table (g.H.Host.world c.args.host.now) _ c.sync_names.result current.shows (c.sync_names.ensures.files tells)
+returns-in_err-sync_names-clause-files g c = λ tells old_form table current.
+    sync_stepping table (g.H.Host.world c.args.host.now) _ c.sync_names.result current.shows (c.sync_names.ensures.files tells)
 
 pub compact-requires-clause-holds : goal.compact-requires-clause-holds
-compact-requires-clause-holds g c = λ tells. (sync_current _ _ _ _ (c.requires.current tells).2 (c.in_ok-sync_names.ensures.files tells).outcome).journal
+compact-requires-clause-holds g c =
+    λ tells. (sync_current _ _ _ _ (c.requires.current tells).2 (c.in_ok-sync_names.ensures.files tells).outcome).journal
 
 pub returns-clause-legal : goal.returns-clause-legal
 returns-clause-legal g c = sound_is_legal _ c.args.journal c.journal.view_is c.journal.invariant

@@ -16,7 +16,8 @@ loop-name-preserved g c = record {
   looks = λ tells. c.in_ok-scan_file.ensures.looks tells ∙ c.loop-name.invariant.looks tells;
   undecided = λ marks tell. c.in_ok-scan_file.ensures.undecided marks tell (c.loop-name.invariant.undecided marks tell);
   scanned_files = λ tells marks tell.
-      prefixes_more marks (reading (g.H.Host.world c.args.host.now)) _ c.deref-name-items.result.now c.loop-name.name-index c.name-item.result _ _
+      prefixes_more marks (reading (g.H.Host.world c.args.host.now)) _ c.deref-name-items.result.now
+      c.loop-name.name-index c.name-item.result _ _
       (c.deref-name-items.ensures.value ∙ c.in_ok-names.ensures.listed tells)
       (ap reading (c.loop-name.invariant.looks tells)) c.loop-name-test.true c.name-item.is
       (c.loop-name.invariant.scanned_files tells marks tell)

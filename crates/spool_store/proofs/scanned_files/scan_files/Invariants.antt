@@ -14,5 +14,6 @@ invariant-loop-name g l = record {
   inside : StaysInside (g.H.Host.session l.fn.host) (g.H.Host.session l.host);
   looks : IsTrue g.H.Host.tells → g.H.Host.world l.host ≡ g.H.Host.world l.fn.host;
   undecided : (marks : List Mark) → TellLifecycles marks l.lives → AreUndecided marks (files_scanned l.scanned_files.scanned.items);
-  scanned_files : IsTrue g.H.Host.tells → (marks : List Mark) → TellLifecycles marks l.lives → AreScannedFiles marks (take l.name-index (entries (reading (g.H.Host.world l.fn.host)))) l.scanned_files;
+  scanned_files : IsTrue g.H.Host.tells → (marks : List Mark) → TellLifecycles marks l.lives
+      → AreScannedFiles marks (take l.name-index (entries (reading (g.H.Host.world l.fn.host)))) l.scanned_files;
 }

@@ -20,7 +20,8 @@ draw-requires-clause-last g c = λ tells.
 
 pub returns-in_err-draw-clause-files : goal.returns-in_err-draw-clause-files
 returns-in_err-draw-clause-files g c = λ tells kept table next.
-    draw_failed kept table c.args.job.now.queue c.args.job.now.number c.args.job.now.minute c.args.script.now (g.H.Host.world c.args.host.now) next
+    draw_failed kept table c.args.job.now.queue c.args.job.now.number c.args.job.now.minute c.args.script.now
+    (g.H.Host.world c.args.host.now) next
     (g.H.Host.world c.draw.new.host) c.from_residual.result c.from_residual.ensures.0 (c.in_err-draw.ensures.files tells)
 
 pub returns-clause-files : goal.returns-clause-files
@@ -31,13 +32,18 @@ returns-clause-files g c = λ tells kept table next.
     let script : List ℕ = c.args.script.now in
     placing_done kept table c.args.job.now.queue c.args.job.now.number c.args.job.now.minute script (g.H.Host.world c.args.host.now) next
     name middle new c.place.result
-    (subst (λ new_form. SpellsJobName name c.args.job.now.queue c.args.job.now.number c.args.job.now.minute new_form) c.requires.new_form c.name-name.ensures) c.requires.header
+    (subst (λ new_form. SpellsJobName name c.args.job.now.queue c.args.job.now.number c.args.job.now.minute new_form) c.requires.new_form
+    c.name-name.ensures) c.requires.header
     (c.in_ok-draw.ensures.files tells) (c.in_ok-draw.ensures.drawn tells)
-    (subst (λ temp. ChangesFiles (IsPlacing temp name script middle.now.directory) middle new) c.temporary_name.ensures (c.place.ensures.files tells))
-    (subst (λ temp. OnOk c.place.result (IsPlaced temp name script middle.now.directory new.now.directory)) c.temporary_name.ensures (c.place.ensures.placed tells))
+    (subst (λ temp. ChangesFiles (IsPlacing temp name script middle.now.directory) middle new) c.temporary_name.ensures
+    (c.place.ensures.files tells))
+    (subst (λ temp. OnOk c.place.result (IsPlaced temp name script middle.now.directory new.now.directory)) c.temporary_name.ensures
+    (c.place.ensures.placed tells))
 
 pub returns-clause-named : goal.returns-clause-named
 returns-clause-named g c = λ tells.
-    placed_new_form c.name-name.result c.args.script.now c.args.job.now.queue c.args.job.now.minute c.args.job.now.number _ _ _ c.place.result
-    (subst (λ new_form. SpellsJobName c.name-name.result c.args.job.now.queue c.args.job.now.number c.args.job.now.minute new_form) c.requires.new_form c.name-name.ensures)
+    placed_new_form c.name-name.result c.args.script.now c.args.job.now.queue c.args.job.now.minute
+    c.args.job.now.number _ _ _ c.place.result
+    (subst (λ new_form. SpellsJobName c.name-name.result c.args.job.now.queue c.args.job.now.number c.args.job.now.minute new_form)
+    c.requires.new_form c.name-name.ensures)
     (c.place.ensures.placed tells)

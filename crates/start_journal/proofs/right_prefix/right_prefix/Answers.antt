@@ -7,4 +7,5 @@ returns-then-not-may_stand-clause-prefix c =
     prefix_is c.args.slot.now c.loop-place.place (omega arith) c.loop-place.invariant (λ inside. sym c.if-not-may_stand.ensures)
 
 pub returns-clause-prefix : goal.returns-clause-prefix
-returns-clause-prefix c = prefix_is c.args.slot.now 32 (omega arith) (λ at inside. c.loop-place.invariant at (omega arith)) (λ inside. absurd (omega arith))
+returns-clause-prefix c =
+    prefix_is c.args.slot.now 32 (omega arith) (λ at inside. c.loop-place.invariant at (omega arith)) (λ inside. absurd (omega arith))

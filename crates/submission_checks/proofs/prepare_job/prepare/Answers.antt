@@ -15,14 +15,16 @@ pub returns-then-not-is_clock_second-clause-prepares : goal.returns-then-not-is_
 returns-then-not-is_clock_second-clause-prepares g c =
     let fits : FitsSigned w64 c.now-now.result = search rules in
     rw c.refused.ensures
-    (clock_stops _ _ _ _ _ _ _ _ _ (context_passes c.args.caller.now.context c.in_ok-check.ensures.first) c.now-now.result c.now-now.ensures.known
+    (clock_stops _ _ _ _ _ _ _ _ _ (context_passes c.args.caller.now.context c.in_ok-check.ensures.first)
+    c.now-now.result c.now-now.ensures.known
     (same_second c.now-now.result c.is_clock_second.result fits c.is_clock_second.ensures.value ∙ c.if-not-is_clock_second.true))
 
 pub returns-then-is_unreadable-clause-prepares : goal.returns-then-is_unreadable-clause-prepares
 returns-then-is_unreadable-clause-prepares g c =
     let fits : FitsSigned w64 c.now-now.result = search rules in
     rw c.refused-then-is_unreadable.ensures
-    (zone_stops _ _ _ _ _ _ _ _ _ (context_passes c.args.caller.now.context c.in_ok-check.ensures.first) c.now-now.result c.now-now.ensures.known
+    (zone_stops _ _ _ _ _ _ _ _ _ (context_passes c.args.caller.now.context c.in_ok-check.ensures.first)
+    c.now-now.result c.now-now.ensures.known
     (same_second c.now-now.result c.is_clock_second.result fits c.is_clock_second.ensures.value ∙ c.if-not-is_clock_second.false)
     (sym c.is_unreadable.ensures ∙ c.if-is_unreadable.true))
 
@@ -31,7 +33,8 @@ returns-in_err-minute-clause-prepares g c =
     let fits : FitsSigned w64 c.now-now.result = search rules in
     let p = err_from_is_err_and c.from_residual-in_err-minute.result c.from_residual-in_err-minute.ensures.1 in
     rw (p.1, p.2)
-    (meant_stops_at _ _ _ _ _ _ _ _ _ (context_passes c.args.caller.now.context c.in_ok-check.ensures.first) c.now-now.result c.now-now.ensures.known
+    (meant_stops_at _ _ _ _ _ _ _ _ _ (context_passes c.args.caller.now.context c.in_ok-check.ensures.first)
+    c.now-now.result c.now-now.ensures.known
     (same_second c.now-now.result c.is_clock_second.result fits c.is_clock_second.ensures.value ∙ c.if-not-is_clock_second.false)
     (sym c.is_unreadable.ensures ∙ c.if-is_unreadable.false) _ c.in_err-minute.field-0.0.cause (to_z-of_z w64 c.now-now.result fits)
     c.in_err-minute.ensures.meant)
@@ -41,7 +44,8 @@ returns-in_err-commands-clause-prepares g c =
     let fits : FitsSigned w64 c.now-now.result = search rules in
     let p = err_from_is_err_and c.from_residual-in_err-commands.result c.from_residual-in_err-commands.ensures.1 in
     rw (p.1, p.2)
-    (input_stops _ _ _ _ _ _ _ _ _ (context_passes c.args.caller.now.context c.in_ok-check.ensures.first) c.now-now.result c.now-now.ensures.known
+    (input_stops _ _ _ _ _ _ _ _ _ (context_passes c.args.caller.now.context c.in_ok-check.ensures.first)
+    c.now-now.result c.now-now.ensures.known
     (same_second c.now-now.result c.is_clock_second.result fits c.is_clock_second.ensures.value ∙ c.if-not-is_clock_second.false)
     (sym c.is_unreadable.ensures ∙ c.if-is_unreadable.false) c.in_ok-minute.minute
     (meant_at _ _ c.now-now.result _ _ (to_z-of_z w64 c.now-now.result fits) c.in_ok-minute.ensures.meant)
@@ -52,7 +56,8 @@ returns-in_err-script-clause-prepares g c =
     let fits : FitsSigned w64 c.now-now.result = search rules in
     let p = err_from_is_err_and c.from_residual-in_err-script.result c.from_residual-in_err-script.ensures.1 in
     rw (p.1, p.2)
-    (script_stops_at _ _ _ _ _ _ _ _ _ (context_passes c.args.caller.now.context c.in_ok-check.ensures.first) c.now-now.result c.now-now.ensures.known
+    (script_stops_at _ _ _ _ _ _ _ _ _ (context_passes c.args.caller.now.context c.in_ok-check.ensures.first)
+    c.now-now.result c.now-now.ensures.known
     (same_second c.now-now.result c.is_clock_second.result fits c.is_clock_second.ensures.value ∙ c.if-not-is_clock_second.false)
     (sym c.is_unreadable.ensures ∙ c.if-is_unreadable.false) c.in_ok-minute.minute
     (meant_at _ _ c.now-now.result _ _ (to_z-of_z w64 c.now-now.result fits) c.in_ok-minute.ensures.meant)
@@ -62,7 +67,8 @@ returns-in_err-script-clause-prepares g c =
 pub returns-clause-prepares : goal.returns-clause-prepares
 returns-clause-prepares g c =
     let fits : FitsSigned w64 c.now-now.result = search rules in
-    prepared _ _ _ _ _ _ _ _ _ (context_passes c.args.caller.now.context c.in_ok-check.ensures.first) c.now-now.result c.now-now.ensures.known
+    prepared _ _ _ _ _ _ _ _ _ (context_passes c.args.caller.now.context c.in_ok-check.ensures.first)
+    c.now-now.result c.now-now.ensures.known
     (same_second c.now-now.result c.is_clock_second.result fits c.is_clock_second.ensures.value ∙ c.if-not-is_clock_second.false)
     (sym c.is_unreadable.ensures ∙ c.if-is_unreadable.false) c.in_ok-minute.minute
     (meant_at _ _ c.now-now.result _ _ (to_z-of_z w64 c.now-now.result fits) c.in_ok-minute.ensures.meant)

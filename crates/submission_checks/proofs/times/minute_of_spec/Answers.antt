@@ -6,14 +6,16 @@ use Rattle.submission_checks.proofs.times.minute_of_spec.Goals as goal
 pub returns-in-Err-clause-meant : goal.returns-in-Err-clause-meant
 returns-in-Err-clause-meant c =
     rw c.misspelled.ensures (record {
-      time = only_refused c.args.text.now c.args.now c.args.zone.now c.in-Err.fault.place c.in-Err.ensures.refused c.in-Err.ensures.only_there;
+      time =
+          only_refused c.args.text.now c.args.now c.args.zone.now c.in-Err.fault.place c.in-Err.ensures.refused c.in-Err.ensures.only_there;
       comes = inl refl;
     })
 
 pub returns-in-Err-parse-clause-meant : goal.returns-in-Err-parse-clause-meant
 returns-in-Err-parse-clause-meant c =
     rw (c.misspelled-in-Err-parse.ensures, c.token_place.ensures) (record {
-      time = spec_stopped c.args.text.now c.args.now c.args.zone.now c.as_slice-placed.result.now c.in-Ok.placed.items c.in-Err-parse.fault.token
+      time = spec_stopped c.args.text.now c.args.now c.args.zone.now c.as_slice-placed.result.now c.in-Ok.placed.items
+          c.in-Err-parse.fault.token
           c.as_slice-placed.ensures.value c.in-Ok.ensures.tokens c.in-Ok.ensures.only_these c.in-Err-parse.ensures.fault;
       comes = inl refl;
     })

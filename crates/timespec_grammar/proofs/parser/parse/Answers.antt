@@ -32,7 +32,8 @@ returns-in_default-timespec_read-clause-refused c =
 pub returns-clause-spelled : goal.returns-clause-spelled
 returns-clause-spelled c =
     let ran = all_read c.args.tokens.now c.loop-index.index c.loop-index.read c.loop-index-test.false c.loop-index.invariant in
-    spelled_at_end (tokens_of c.args.tokens.now) c.loop-index.read c.in-Some-timespec_read.spec ran (sym c.timespec_read.ensures ∙ c.in-Some-timespec_read.is)
+    spelled_at_end (tokens_of c.args.tokens.now) c.loop-index.read c.in-Some-timespec_read.spec ran (sym c.timespec_read.ensures
+    ∙ c.in-Some-timespec_read.is)
 
 pub returns-clause-only : goal.returns-clause-only
 returns-clause-only c = λ other spelled.
@@ -44,4 +45,5 @@ pub returns-clause-in_range : goal.returns-clause-in_range
 returns-clause-in_range c =
     let ran = all_read c.args.tokens.now c.loop-index.index c.loop-index.read c.loop-index-test.false c.loop-index.invariant in
     spells_in_range (tokens_of c.args.tokens.now) c.in-Some-timespec_read.spec
-    (spelled_at_end (tokens_of c.args.tokens.now) c.loop-index.read c.in-Some-timespec_read.spec ran (sym c.timespec_read.ensures ∙ c.in-Some-timespec_read.is))
+    (spelled_at_end (tokens_of c.args.tokens.now) c.loop-index.read c.in-Some-timespec_read.spec ran (sym c.timespec_read.ensures
+    ∙ c.in-Some-timespec_read.is))

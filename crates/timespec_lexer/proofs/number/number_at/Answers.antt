@@ -21,7 +21,8 @@ overflow_add-value c =
     let inv = c.loop-end.invariant in
     let small : number_at c.args.text.now c.args.place (c.loop-end.end - c.args.place) < 100_000_000 =
     number_small c.args.text.now c.args.place c.loop-end.end inv.forward (omega arith) inv.digits in
-    let digit : slice_index c.args.text.now c.loop-end.end - 48 < 10 = digit_below c.args.text.now c.loop-end.end (digit_true c.is_ascii_digit.ensures.value c.if-is_ascii_digit.true) in
+    let digit : slice_index c.args.text.now c.loop-end.end - 48 < 10 =
+    digit_below c.args.text.now c.loop-end.end (digit_true c.is_ascii_digit.ensures.value c.if-is_ascii_digit.true) in
     omega (arith, inv.value)
 
 pub loop-end-preserved : goal.loop-end-preserved

@@ -7,5 +7,6 @@ use borrow.Author.Tests.{tests}
 
 pub returns : goal.returns
 returns c =
-    let lines = YieldsList-from_slice_split _ _ c.args.proof_record.now c.split.ensures.rest c.split.ensures.done c.split.ensures.closure (λ x b q k. search (rules, tests)) in
+    let lines = YieldsList-from_slice_split _ _ c.args.proof_record.now c.split.ensures.rest c.split.ensures.done c.split.ensures.closure
+    (λ x b q k. search (rules, tests)) in
     find_from_yields_List (has_head c.args.head.now) _ _ c.find.result c.find.ensures.ran lines (λ x b q k. search (rules, tests))

@@ -12,9 +12,11 @@ use Rattle.at_account.proofs.account.Account.observe.Goals as goal
 pub returns-then-old-new-gt-MAX_RECORDS-clause-full : goal.returns-then-old-new-gt-MAX_RECORDS-clause-full
 returns-then-old-new-gt-MAX_RECORDS-clause-full c same table live done =
     let old = c.as_slice-old.result.now in
-    let in_turn : AreLegalAfter IsRecordAllowed [] old = subst (AreLegalAfter IsRecordAllowed []) (sym c.as_slice-old.ensures.value) c.self.invariant.in_turn in
+    let in_turn : AreLegalAfter IsRecordAllowed [] old =
+    subst (AreLegalAfter IsRecordAllowed []) (sym c.as_slice-old.ensures.value) c.self.invariant.in_turn in
     let ledger : IsLedgerOf old c.add_records.new.ledger = c.in_ok-add_records.ensures [] c.new-ledger.ensures in_turn in
-    let are : AreNews old table c.in_ok-new_records.new_records.items = c.in_ok-new_records.ensures.are old (known_in table) ledger (c.in_ok-jobs.ensures table live done) in
+    let are : AreNews old table c.in_ok-new_records.new_records.items =
+    c.in_ok-new_records.ensures.are old (known_in table) ledger (c.in_ok-jobs.ensures table live done) in
     let kept : old ≡ c.args.self.now = cc in
     subst (λ records. WouldPass records table) kept (record {
       new_records = c.in_ok-new_records.new_records.items;
@@ -26,9 +28,11 @@ pub invariant_of-self-2 : goal.invariant_of-self-2
 invariant_of-self-2 c =
     let old = c.as_slice-old.result.now in
     let new = c.as_slice-new.result.now in
-    let in_turn : AreLegalAfter IsRecordAllowed [] old = subst (AreLegalAfter IsRecordAllowed []) (sym c.as_slice-old.ensures.value) c.self.invariant.in_turn in
+    let in_turn : AreLegalAfter IsRecordAllowed [] old =
+    subst (AreLegalAfter IsRecordAllowed []) (sym c.as_slice-old.ensures.value) c.self.invariant.in_turn in
     let ledger : IsLedgerOf old c.add_records.new.ledger = c.in_ok-add_records.ensures [] c.new-ledger.ensures in_turn in
-    let may : AreLegalAfter IsRecordAllowed old new = subst (AreLegalAfter IsRecordAllowed old) (sym c.as_slice-new.ensures.value) (c.in_ok-new_records.ensures.in_turn old ledger) in
+    let may : AreLegalAfter IsRecordAllowed old new =
+    subst (AreLegalAfter IsRecordAllowed old) (sym c.as_slice-new.ensures.value) (c.in_ok-new_records.ensures.in_turn old ledger) in
     let whole : IsLedgerOf (old ++ new) c.add_records-2.new.ledger = c.in_ok-add_records-2.ensures old ledger may in
     grown old new c.extend_from_slice.new.self.items c.in_ok-totals.totals.items
     (c.in_ok-extend_from_slice.ensures.items ∙ ap (λ records. records ++ new) (sym c.as_slice-old.ensures.value)) in_turn may
@@ -37,13 +41,16 @@ invariant_of-self-2 c =
 pub returns-clause-observed : goal.returns-clause-observed
 returns-clause-observed c table live done =
     let old = c.as_slice-old.result.now in
-    let in_turn : AreLegalAfter IsRecordAllowed [] old = subst (AreLegalAfter IsRecordAllowed []) (sym c.as_slice-old.ensures.value) c.self.invariant.in_turn in
+    let in_turn : AreLegalAfter IsRecordAllowed [] old =
+    subst (AreLegalAfter IsRecordAllowed []) (sym c.as_slice-old.ensures.value) c.self.invariant.in_turn in
     let ledger : IsLedgerOf old c.add_records.new.ledger = c.in_ok-add_records.ensures [] c.new-ledger.ensures in_turn in
-    let are : AreNews old table c.in_ok-new_records.new_records.items = c.in_ok-new_records.ensures.are old (known_in table) ledger (c.in_ok-jobs.ensures table live done) in
+    let are : AreNews old table c.in_ok-new_records.new_records.items =
+    c.in_ok-new_records.ensures.are old (known_in table) ledger (c.in_ok-jobs.ensures table live done) in
     let kept : old ≡ c.args.self.now = cc in
     subst (λ records. IsObserved records c.extend_from_slice.new.self.items table) kept (record {
       new_records = c.in_ok-new_records.new_records.items;
-      added = c.in_ok-extend_from_slice.ensures.items ∙ ap (λ records. records ++ c.as_slice-new.result.now) (sym c.as_slice-old.ensures.value)
+      added = c.in_ok-extend_from_slice.ensures.items
+          ∙ ap (λ records. records ++ c.as_slice-new.result.now) (sym c.as_slice-old.ensures.value)
           ∙ ap (λ new_records. old ++ new_records) c.as_slice-new.ensures.value;
       are = are;
     })
@@ -51,11 +58,14 @@ returns-clause-observed c table live done =
 pub returns-clause-spelled : goal.returns-clause-spelled
 returns-clause-spelled c can table sound live done letters =
     let old = c.as_slice-old.result.now in
-    let in_turn : AreLegalAfter IsRecordAllowed [] old = subst (AreLegalAfter IsRecordAllowed []) (sym c.as_slice-old.ensures.value) c.self.invariant.in_turn in
+    let in_turn : AreLegalAfter IsRecordAllowed [] old =
+    subst (AreLegalAfter IsRecordAllowed []) (sym c.as_slice-old.ensures.value) c.self.invariant.in_turn in
     let ledger : IsLedgerOf old c.add_records.new.ledger = c.in_ok-add_records.ensures [] c.new-ledger.ensures in_turn in
-    let are : AreNews old table c.in_ok-new_records.new_records.items = c.in_ok-new_records.ensures.are old (known_in table) ledger (c.in_ok-jobs.ensures table live done) in
+    let are : AreNews old table c.in_ok-new_records.new_records.items =
+    c.in_ok-new_records.ensures.are old (known_in table) ledger (c.in_ok-jobs.ensures table live done) in
     let kept : old ≡ c.args.self.now = cc in
-    all_can_be_written old c.in_ok-new_records.new_records.items c.args.rows.now table (subst (All (CanBeSpelled SpellsRecord)) (sym kept) can) sound live letters c.users_are_names.ensures are
+    all_can_be_written old c.in_ok-new_records.new_records.items c.args.rows.now table
+    (subst (All (CanBeSpelled SpellsRecord)) (sym kept) can) sound live letters c.users_are_names.ensures are
     c.extend_from_slice.new.self.items
     (c.in_ok-extend_from_slice.ensures.items ∙ ap (λ records. records ++ c.as_slice-new.result.now) (sym c.as_slice-old.ensures.value)
     ∙ ap (λ new_records. old ++ new_records) c.as_slice-new.ensures.value)

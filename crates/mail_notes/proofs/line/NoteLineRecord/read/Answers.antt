@@ -6,7 +6,8 @@ use Rattle.mail_notes.proofs.line.NoteLineRecord.read.Goals as goal
 
 pub returns-in_err-number-clause-none : goal.returns-in_err-number-clause-none
 returns-in_err-number-clause-none c = rw c.from_residual.ensures (λ note spelled.
-    c.in_err-number.ensures.none (number_of_note note) (fits_of note spelled.of) (c.split_at.ensures.front ∙ digits_part c.args.line.now note spelled))
+    c.in_err-number.ensures.none (number_of_note note) (fits_of note spelled.of) (c.split_at.ensures.front
+    ∙ digits_part c.args.line.now note spelled))
 
 pub returns-clause-none : goal.returns-clause-none
 returns-clause-none c =

@@ -8,14 +8,16 @@ use Rattle.mail_session.proofs.MailerLemmas.{distinct_of_session, post_of_sessio
 use Rattle.mail_session.proofs.mailer.Post.session.Goals as goal
 
 pub end_of_session-requires : goal.end_of_session-requires
-end_of_session-requires g c = reads_of_session g.H.Host _ _ _ _ _ c.in_session-worked.result c.in_session-worked.ensures.ends (λ first last done did. search (rules, did))
+end_of_session-requires g c = reads_of_session g.H.Host _ _ _ _ _ c.in_session-worked.result c.in_session-worked.ensures.ends
+    (λ first last done did. search (rules, did))
 
 pub mail_report-requires : goal.mail_report-requires
 mail_report-requires g c =
     let post : PostState = record { program = c.as_slice-program.result.now; kids = c.self.inside.kids.items } in
     let now : PostState = record { program = c.as_slice-program.result.now; kids = c.in_session-worked.new.work.2.now.items } in
     distinct_of_session g.H.Host _ _ _ _ _ post now refl
-    (subst (λ (is : PostState). AreChildren (g.H.Host.session c.args.host.now).children is.kids) (sym c.self.view_is) c.requires.children) c.sent-2-1.given.0.items
+    (subst (λ (is : PostState). AreChildren (g.H.Host.session c.args.host.now).children is.kids) (sym c.self.view_is) c.requires.children)
+    c.sent-2-1.given.0.items
     (λ same. (search (rules, same), search (rules, same, c.new-sent.ensures.items)))
     (λ first last done did. search (rules, did)) c.in_session-worked.result c.in_session-worked.ensures.ends
 

@@ -9,7 +9,8 @@ returns c =
     let at = state_of c.args.self.now.past in
     let directory = at.directory in
     let works : ¬ (c.next_part-part.result ≡ Some Nothing) = search rules in
-    change_done _ _ _ c.args.self.now c.finish.new.self _ c.next_part-part.result c.finish.result c.in_ok-create.ensures.made c.finish.ensures.world refl
+    change_done _ _ _ c.args.self.now c.finish.new.self _ c.next_part-part.result c.finish.result c.in_ok-create.ensures.made
+    c.finish.ensures.world refl
     (done_made directory at.next c.args.name.now c.args.bytes.now c.in_ok-create.ensures.fresh)
     (part_made directory at.next c.args.name.now c.args.bytes.now c.in_ok-create.ensures.fresh)
     c.finish.ensures.inside

@@ -10,7 +10,8 @@ invariant_of-self-clause-faults c =
     let at = progress_of host in
     subst (λ next. AreFaultsPlanned next host.fuses.items host.file_faults host.start_faults c.saturating_add-self.result)
     (sym (next_progress at _ _ c.next-self.ensures.call c.next-self.ensures.since_reboot))
-    (faults_taken at host.fuses.items host.file_faults host.start_faults host.taken host.faults _ c.saturating_add-self.ensures (sym c.finds_taken-is_taken.ensures ∙ c.if-is_taken.true))
+    (faults_taken at host.fuses.items host.file_faults host.start_faults host.taken host.faults _ c.saturating_add-self.ensures
+    (sym c.finds_taken-is_taken.ensures ∙ c.if-is_taken.true))
 
 pub invariant_of-self-then-fails-clause-faults : goal.invariant_of-self-then-fails-clause-faults
 invariant_of-self-then-fails-clause-faults c =

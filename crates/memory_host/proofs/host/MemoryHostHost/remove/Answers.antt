@@ -6,7 +6,8 @@ use Rattle.memory_host.proofs.host.MemoryHostHost.remove.Goals as goal
 pub returns : goal.returns
 returns c =
     let works : ¬ (c.next_part-part.result ≡ Some Nothing) = search rules in
-    change_done _ _ _ c.args.self.now c.finish.new.self _ c.next_part-part.result c.finish.result c.in_ok-remove.ensures c.finish.ensures.world refl
+    change_done _ _ _ c.args.self.now c.finish.new.self _ c.next_part-part.result c.finish.result c.in_ok-remove.ensures
+    c.finish.ensures.world refl
     refl
     refl
     c.finish.ensures.inside

@@ -8,7 +8,8 @@ pub returns : goal.returns
 returns c =
     let directory = (state_of c.args.self.now.past).directory in
     let works : ¬ (c.next_part-part.result ≡ Some Nothing) = search rules in
-    change_done _ _ _ c.args.self.now c.finish.new.self _ c.next_part-part.result c.finish.result c.in_ok-settle.ensures c.finish.ensures.world refl
+    change_done _ _ _ c.args.self.now c.finish.new.self _ c.next_part-part.result c.finish.result c.in_ok-settle.ensures
+    c.finish.ensures.world refl
     refl
     (part_settled directory)
     c.finish.ensures.inside

@@ -8,7 +8,8 @@ pub returns : goal.returns
 returns c =
     let directory = (state_of c.args.self.now.past).directory in
     let works : ¬ (c.next_part-part.result ≡ Some Nothing) = search rules in
-    change_done _ _ _ c.args.self.now c.finish.new.self _ c.next_part-part.result c.finish.result c.in_ok-sync.ensures.2 c.finish.ensures.world refl
+    change_done _ _ _ c.args.self.now c.finish.new.self _ c.next_part-part.result c.finish.result c.in_ok-sync.ensures.2
+    c.finish.ensures.world refl
     (done_synced directory c.in_ok-sync.ensures.0 c.args.name.now c.in_ok-sync.ensures.1)
     (part_synced directory c.in_ok-sync.ensures.0)
     c.finish.ensures.inside

@@ -8,7 +8,8 @@ pub returns : goal.returns
 returns c =
     let directory = (state_of c.args.self.now.past).directory in
     let works : ¬ (c.next_part-part.result ≡ Some Nothing) = search rules in
-    change_done _ _ _ c.args.self.now c.finish.new.self _ c.next_part-part.result c.finish.result c.in_ok-write.ensures.2 c.finish.ensures.world refl
+    change_done _ _ _ c.args.self.now c.finish.new.self _ c.next_part-part.result c.finish.result c.in_ok-write.ensures.2
+    c.finish.ensures.world refl
     (done_written directory c.in_ok-write.ensures.0 c.args.offset c.args.name.now c.args.bytes.now c.in_ok-write.ensures.1)
     (part_written directory c.in_ok-write.ensures.0 c.args.offset c.args.name.now c.args.bytes.now c.in_ok-write.ensures.1)
     c.finish.ensures.inside

@@ -10,4 +10,5 @@ invariant_of-self-clause-faults g c =
     let at = progress_of host in
     subst (λ next. AreFaultsPlanned next host.fuses.items c.saturating_add-self.result host.start_faults host.taken)
     (sym (next_progress at _ _ c.next-self.ensures.call c.next-self.ensures.since_reboot))
-    (faults_failed at host.fuses.items host.file_faults host.start_faults host.taken host.faults _ c.saturating_add-self.ensures c.requires.planned)
+    (faults_failed at host.fuses.items host.file_faults host.start_faults host.taken host.faults _
+    c.saturating_add-self.ensures c.requires.planned)

@@ -13,4 +13,5 @@ returns-in_ok-insert-clause-now c =
 pub returns-in_ok-insert-clause-durable : goal.returns-in_ok-insert-clause-durable
 returns-in_ok-insert-clause-durable c =
     let none = not_some (get name_cmp c.args.self.now.held c.args.target.now) (sym c.contains_key.ensures ∙ c.if-not-contains_key.true) in
-    put-same_durable c.args.target.now _ c.args.self.now.held c.insert.new.self c.in_ok-insert.ensures.updates.0 (sym (ap durable_part none))
+    put-same_durable c.args.target.now _ c.args.self.now.held c.insert.new.self c.in_ok-insert.ensures.updates.0
+    (sym (ap durable_part none))

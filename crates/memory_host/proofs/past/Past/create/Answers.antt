@@ -17,5 +17,6 @@ invariant_of-self-2 c =
     let s = c.self.inside in
     let story : CallLog = record { opening = s.opening.entries; calls = s.calls.items } in
     known_next _ story _ _ c.add_file.new.names c.add_file.new.bodies s.handed.items c.push_reserved.ensures.items c.reserve.ensures.items
-    (subst (λ bytes. IsStateKept (with_new_file c.args.name.now bytes (state_of story)) c.add_file.new.names c.add_file.new.bodies s.handed.items) (sym c.in_ok-copy.ensures)
+    (subst (λ bytes. IsStateKept (with_new_file c.args.name.now bytes (state_of story)) c.add_file.new.names c.add_file.new.bodies
+    s.handed.items) (sym c.in_ok-copy.ensures)
     (c.in_ok-add_file.ensures (state_of story) s.handed.items c.self.invariant))

@@ -8,5 +8,6 @@ use Rattle.memory_host.proofs.past.Past.names.Goals as goal
 
 pub returns : goal.returns
 returns c =
-    let same = names_known c.self.inside.names.held c.names.ensures.found (state_of _).directory c.names.ensures.ordered c.self.invariant.named.now_names ∙ ap (λ story. finite.keys (reading_of (state_of story).directory)) c.self.view_is in
+    let same = names_known c.self.inside.names.held c.names.ensures.found (state_of _).directory c.names.ensures.ordered
+    c.self.invariant.named.now_names ∙ ap (λ story. finite.keys (reading_of (state_of story).directory)) c.self.view_is in
     IfOk-weaker c.names.result _ _ (λ names is. is ∙ same) c.names.ensures.names

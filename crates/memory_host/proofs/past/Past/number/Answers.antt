@@ -15,5 +15,6 @@ unreachable-requires c =
 pub returns : goal.returns
 returns c = record {
   held = subst (λ story. IsHeldAt (names_of (state_of story).directory) c.args.name.now c.in-Some.number) c.self.view_is
-      (held_at (state_of _) c.self.inside.names c.self.inside.bodies c.self.inside.handed.items c.self.invariant c.args.name.now c.in-Some.number (sym c.number.ensures ∙ c.in-Some.is));
+      (held_at (state_of _) c.self.inside.names c.self.inside.bodies c.self.inside.handed.items c.self.invariant c.args.name.now
+      c.in-Some.number (sym c.number.ensures ∙ c.in-Some.is));
 }

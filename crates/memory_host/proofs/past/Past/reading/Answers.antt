@@ -8,17 +8,22 @@ use Rattle.memory_host.proofs.past.Past.reading.Goals as goal
 
 pub bytes-requires : goal.bytes-requires
 bytes-requires c =
-    number_known (state_of _) c.self.inside.names c.self.inside.bodies c.self.inside.handed.items c.self.invariant c.args.name.now c.in-Some.number
-    (held_at (state_of _) c.self.inside.names c.self.inside.bodies c.self.inside.handed.items c.self.invariant c.args.name.now c.in-Some.number (sym c.number.ensures ∙ c.in-Some.is))
+    number_known (state_of _) c.self.inside.names c.self.inside.bodies c.self.inside.handed.items c.self.invariant
+    c.args.name.now c.in-Some.number
+    (held_at (state_of _) c.self.inside.names c.self.inside.bodies c.self.inside.handed.items c.self.invariant c.args.name.now
+    c.in-Some.number (sym c.number.ensures ∙ c.in-Some.is))
 
 pub returns-in-Some : goal.returns-in-Some
 returns-in-Some c =
     ap Some c.bytes.ensures
-    ∙ sym (reading_known (state_of _) c.self.inside.names c.self.inside.bodies c.self.inside.handed.items c.self.invariant c.args.name.now c.in-Some.number
-    (held_at (state_of _) c.self.inside.names c.self.inside.bodies c.self.inside.handed.items c.self.invariant c.args.name.now c.in-Some.number (sym c.number.ensures ∙ c.in-Some.is)))
+    ∙ sym (reading_known (state_of _) c.self.inside.names c.self.inside.bodies c.self.inside.handed.items c.self.invariant
+    c.args.name.now c.in-Some.number
+    (held_at (state_of _) c.self.inside.names c.self.inside.bodies c.self.inside.handed.items c.self.invariant c.args.name.now
+    c.in-Some.number (sym c.number.ensures ∙ c.in-Some.is)))
     ∙ ap (λ story. finite.get (reading_of (state_of story).directory) c.args.name.now) c.self.view_is
 
 pub returns-in-None : goal.returns-in-None
 returns-in-None c =
-    sym (none_known (state_of _) c.self.inside.names c.self.inside.bodies c.self.inside.handed.items c.self.invariant c.args.name.now (sym c.number.ensures ∙ c.in-None.is))
+    sym (none_known (state_of _) c.self.inside.names c.self.inside.bodies c.self.inside.handed.items c.self.invariant c.args.name.now
+    (sym c.number.ensures ∙ c.in-None.is))
     ∙ ap (λ story. finite.get (reading_of (state_of story).directory) c.args.name.now) c.self.view_is

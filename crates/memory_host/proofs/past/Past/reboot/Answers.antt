@@ -8,4 +8,5 @@ invariant_of-self-2 c =
     let s = c.self.inside in
     let story : CallLog = record { opening = s.opening.entries; calls = s.calls.items } in
     known_next _ story _ _ c.crash.new.self c.crash-2.new.self s.handed.items c.push_reserved.ensures.items c.reserve.ensures.items
-    (known_crashed (state_of story) s.names c.crash.new.self s.bodies c.crash-2.new.self s.handed.items c.self.invariant c.args.pick c.crash.ensures.now c.crash.ensures.durable c.crash.ensures.pending c.crash-2.ensures.list)
+    (known_crashed (state_of story) s.names c.crash.new.self s.bodies c.crash-2.new.self s.handed.items c.self.invariant c.args.pick
+    c.crash.ensures.now c.crash.ensures.durable c.crash.ensures.pending c.crash-2.ensures.list)

@@ -8,4 +8,5 @@ invariant_of-self-2 c =
     let s = c.self.inside in
     let story : CallLog = record { opening = s.opening.entries; calls = s.calls.items } in
     known_next _ story _ _ c.sync.new.self c.settle.new.self s.handed.items c.push_reserved.ensures.items c.reserve.ensures.items
-    (known_settled (state_of story) s.names c.sync.new.self s.bodies c.settle.new.self s.handed.items c.self.invariant c.sync.ensures.now c.sync.ensures.durable c.sync.ensures.pending c.settle.ensures.list)
+    (known_settled (state_of story) s.names c.sync.new.self s.bodies c.settle.new.self s.handed.items c.self.invariant c.sync.ensures.now
+    c.sync.ensures.durable c.sync.ensures.pending c.settle.ensures.list)

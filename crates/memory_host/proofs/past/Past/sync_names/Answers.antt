@@ -8,4 +8,5 @@ invariant_of-self-2 c =
     let s = c.self.inside in
     let story : CallLog = record { opening = s.opening.entries; calls = s.calls.items } in
     known_next _ story _ _ c.sync.new.self s.bodies s.handed.items c.push_reserved.ensures.items c.reserve.ensures.items
-    (known_names (state_of story) s.names c.sync.new.self s.bodies s.bodies s.handed.items c.self.invariant c.sync.ensures.now c.sync.ensures.durable c.sync.ensures.pending)
+    (known_names (state_of story) s.names c.sync.new.self s.bodies s.bodies s.handed.items c.self.invariant c.sync.ensures.now
+    c.sync.ensures.durable c.sync.ensures.pending)

@@ -11,5 +11,6 @@ returns-clause-known c tells =
     let some : 0 < length given = search rules in
     let counted : count ≤ last_count = search rules in
     let known : answer_at given count ≡ Some c.planned_answer-load.result = rw (← c.deref.ensures.value) c.planned_answer-load.ensures in
-    let more = answer_more given count c.saturating_add-self.result c.planned_answer-load.result some c.saturating_add-self.ensures counted known in
+    let more =
+    answer_more given count c.saturating_add-self.result c.planned_answer-load.result some c.saturating_add-self.ensures counted known in
     cc

@@ -15,6 +15,7 @@ returns-clause-known c tells =
     let counted : count ≤ last_count = search rules in
     let fits : SFits w64 c.planned_answer-now.result = search rules in
     let known : answer_at given count ≡ Some c.planned_answer-now.result = rw (← c.deref.ensures.value) c.planned_answer-now.ensures in
-    let as_is : answer_at given count ≡ Some (to_z w64 (of_z w64 c.planned_answer-now.result)) = rw (to_z-of_z w64 c.planned_answer-now.result fits) known in
+    let as_is : answer_at given count ≡ Some (to_z w64 (of_z w64 c.planned_answer-now.result)) =
+    rw (to_z-of_z w64 c.planned_answer-now.result fits) known in
     let more = answer_more given count c.saturating_add-self.result _ some c.saturating_add-self.ensures counted as_is in
     cc

@@ -7,6 +7,7 @@ use Rattle.queue_rules.proofs.line.DueLine.due.Goals as goal
 
 pub returns : goal.returns
 returns c =
-    prefix_is_due c.self.inside.due_jobs.items c.deref.result.now _ _ c.args.now c.partition_point-count.result c.deref.ensures.value c.deref-2.ensures.value c.self.view_is c.partition_point-count.ensures.bound
+    prefix_is_due c.self.inside.due_jobs.items c.deref.result.now _ _ c.args.now c.partition_point-count.result c.deref.ensures.value
+    c.deref-2.ensures.value c.self.view_is c.partition_point-count.ensures.bound
     (IsPartitionPoint-from_clause (λ (due : Due). is_due_at c.args.now due) _ _ c.partition_point-count.ensures.partitioned
     (parted_due c.deref.result.now c.args.now (subst AreInLine (sym c.deref.ensures.value) c.self.invariant)) (λ a r q k. search rules))

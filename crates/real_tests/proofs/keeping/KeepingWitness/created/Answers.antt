@@ -3,5 +3,6 @@ use Rattle.real_tests.proofs.keeping.KeepingWitness.created.Goals as goal
 
 pub returns-clause-files : goal.returns-clause-files
 returns-clause-files c knows =
-    keeps_call _ _ c.args.self.now.model c.create-mine.new.self c.args.self.now.steps.items c.and-self.result.items c.args.self.now.asked.items
+    keeps_call _ _ c.args.self.now.model c.create-mine.new.self c.args.self.now.steps.items c.and-self.result.items
+    c.args.self.now.asked.items
     c.of.result c.create-mine.result c.judge.result c.of.ensures c.and-self.ensures c.create-mine.ensures.files c.judge.ensures

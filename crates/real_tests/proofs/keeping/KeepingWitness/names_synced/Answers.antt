@@ -3,5 +3,6 @@ use Rattle.real_tests.proofs.keeping.KeepingWitness.names_synced.Goals as goal
 
 pub returns-clause-files : goal.returns-clause-files
 returns-clause-files c knows =
-    keeps_call _ _ c.args.self.now.model c.sync_names-mine.new.self c.args.self.now.steps.items c.and-self.result.items c.args.self.now.asked.items
+    keeps_call _ _ c.args.self.now.model c.sync_names-mine.new.self c.args.self.now.steps.items c.and-self.result.items
+    c.args.self.now.asked.items
     c.of.result c.sync_names-mine.result c.judge.result c.of.ensures c.and-self.ensures c.sync_names-mine.ensures.files c.judge.ensures

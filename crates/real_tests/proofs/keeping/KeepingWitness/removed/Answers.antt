@@ -3,5 +3,6 @@ use Rattle.real_tests.proofs.keeping.KeepingWitness.removed.Goals as goal
 
 pub returns-clause-files : goal.returns-clause-files
 returns-clause-files c knows =
-    keeps_call _ _ c.args.self.now.model c.remove-mine.new.self c.args.self.now.steps.items c.and-self.result.items c.args.self.now.asked.items
+    keeps_call _ _ c.args.self.now.model c.remove-mine.new.self c.args.self.now.steps.items c.and-self.result.items
+    c.args.self.now.asked.items
     c.of.result c.remove-mine.result c.judge.result c.of.ensures c.and-self.ensures c.remove-mine.ensures.files c.judge.ensures

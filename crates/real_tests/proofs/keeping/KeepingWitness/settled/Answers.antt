@@ -3,5 +3,6 @@ use Rattle.real_tests.proofs.keeping.KeepingWitness.settled.Goals as goal
 
 pub returns-clause-files : goal.returns-clause-files
 returns-clause-files c knows =
-    keeps_call _ _ c.args.self.now.model c.settle-mine.new.self c.args.self.now.steps.items c.and-self.result.items c.args.self.now.asked.items
+    keeps_call _ _ c.args.self.now.model c.settle-mine.new.self c.args.self.now.steps.items c.and-self.result.items
+    c.args.self.now.asked.items
     c.of.result c.settle-mine.result c.judge.result c.of.ensures c.and-self.ensures c.settle-mine.ensures.files c.judge.ensures

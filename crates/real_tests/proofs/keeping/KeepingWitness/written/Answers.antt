@@ -3,5 +3,6 @@ use Rattle.real_tests.proofs.keeping.KeepingWitness.written.Goals as goal
 
 pub returns-clause-files : goal.returns-clause-files
 returns-clause-files c knows =
-    keeps_call _ _ c.args.self.now.model c.write-mine.new.self c.args.self.now.steps.items c.and-self.result.items c.args.self.now.asked.items
+    keeps_call _ _ c.args.self.now.model c.write-mine.new.self c.args.self.now.steps.items c.and-self.result.items
+    c.args.self.now.asked.items
     c.of.result c.write-mine.result c.judge.result c.of.ensures c.and-self.ensures c.write-mine.ensures.files c.judge.ensures

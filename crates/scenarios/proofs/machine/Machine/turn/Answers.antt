@@ -3,7 +3,8 @@ use Rattle.scenarios.proofs.machine.Machine.turn.Goals as goal
 
 -- src/machine.rt:68:22
 pub turn-report-requires-clause-children : goal.turn-report-requires-clause-children
-turn-report-requires-clause-children c = are_children c.args.self.now.host.children.items c.args.self.now.daemon.kids c.args.self.now.children
+turn-report-requires-clause-children c =
+    are_children c.args.self.now.host.children.items c.args.self.now.daemon.kids c.args.self.now.children
 
 -- src/machine.rt:68:22
 pub invariant_of-self : goal.invariant_of-self

@@ -4,4 +4,5 @@ use Rattle.spool_model.proofs.EntriesLemmas.{get-from_map}
 use Rattle.spool_model.proofs.entries.JobEntries.get.Goals as goal
 
 pub returns : goal.returns
-returns c = c.get.ensures.value ∙ sym (get-from_map c.self.inside.map.entries c.args.number) ∙ ap (λ entries. finite.get entries c.args.number) c.self.view_is
+returns c = c.get.ensures.value ∙ sym (get-from_map c.self.inside.map.entries c.args.number)
+    ∙ ap (λ entries. finite.get entries c.args.number) c.self.view_is

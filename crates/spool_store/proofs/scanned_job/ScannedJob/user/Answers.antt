@@ -14,4 +14,5 @@ returns-in-Some c =
 pub returns-in-None : goal.returns-in-None
 returns-in-None c =
     subst (λ bytes. header_fault_in bytes (header_in bytes) ≡ Some c.unwrap_or.result) c.as_slice-bytes.ensures
-    (place_read c.as_slice-bytes.result.now c.header_fault.result c.header_fault.ensures c.in-None.ensures.read ∙ ap Some (sym c.unwrap_or.ensures))
+    (place_read c.as_slice-bytes.result.now c.header_fault.result c.header_fault.ensures c.in-None.ensures.read
+    ∙ ap Some (sym c.unwrap_or.ensures))

@@ -13,7 +13,9 @@ use Rattle.spool_store.proofs.StoredSteps.{DecidesBy, decides_by, decision_legal
 use Rattle.spool_store.proofs.store.Store.decide.Goals as goal
 
 -- the decision that the store makes, its mark, and the file of its job
-decides_so : (inside scanned : Kept) (number : ℕ) (fate : Fate) (mark : Mark) (found : Option (List ℕ)) (name : List ℕ) → inside ≡ scanned → IsLegal scanned.table (decision number fate) → mark ≡ decision_mark number fate → found ≡ Some name → IfSome found (IsLiveFileName scanned.table scanned.old_form number) → IsDecidingStep inside scanned (decision number fate) mark name
+decides_so : (inside scanned : Kept) (number : ℕ) (fate : Fate) (mark : Mark) (found : Option (List ℕ)) (name : List ℕ)
+    → inside ≡ scanned → IsLegal scanned.table (decision number fate) → mark ≡ decision_mark number fate → found ≡ Some name
+    → IfSome found (IsLiveFileName scanned.table scanned.old_form number) → IsDecidingStep inside scanned (decision number fate) mark name
 decides_so inside scanned number fate mark found name view legal mark_is is file =
     let by : DecidesBy inside.table number fate (decision number fate) (decision_mark number fate) = decides_by inside.table number fate in
     subst (λ added. IsDecidingStep inside scanned (decision number fate) added name) (sym mark_is) (record {
@@ -24,7 +26,8 @@ decides_so inside scanned number fate mark found name view legal mark_is is file
     })
 
 -- one that exists where a live job is
-is_there : {X : Type 0} (table : JobTable) (number : ℕ) (fate : Fate) (found : Option X) → IfNone found (IsLive table number → ⊥) → IsLegal table (decision number fate) → IsSome found
+is_there : {X : Type 0} (table : JobTable) (number : ℕ) (fate : Fate) (found : Option X) → IfNone found (IsLive table number → ⊥)
+    → IsLegal table (decision number fate) → IsSome found
 is_there table number fate None none legal = absurd (none ((decides_by table number fate).lives legal))
 is_there table number fate (Some value) none legal = refl
 
@@ -42,22 +45,31 @@ decide_job-requires-clause-legal g c =
 pub decide_job-requires-clause-current : goal.decide_job-requires-clause-current
 decide_job-requires-clause-current g c = λ tells.
     let table : JobTable = (c.requires.may.current tells).0 in
-    let of = decides_so _ _ c.args.number c.args.fate _ c.file.result _ c.self.view_is c.requires.may.legal c.decision_mark-mark.ensures c.unwrap-file.ensures c.file.ensures.found in
+    let of = decides_so _ _ c.args.number c.args.fate _ c.file.result _ c.self.view_is c.requires.may.legal c.decision_mark-mark.ensures
+    c.unwrap-file.ensures c.file.ensures.found in
     (_, table, decision c.args.number c.args.fate, decision_of_step _ _ _ table _ _ _ of (c.requires.may.current tells).1)
 
 pub returns-in_err-self-inside : goal.returns-in_err-self-inside
 returns-in_err-self-inside g c =
-    let of = decides_so _ _ c.args.number c.args.fate _ c.file.result _ c.self.view_is c.requires.may.legal c.decision_mark-mark.ensures c.unwrap-file.ensures c.file.ensures.found in
-    record { makes = failed_step _ _ _ _ _ _ _ c.from_residual-in_err-self-inside.result c.from_residual-in_err-self-inside.ensures.0 (search rules) (search rules) (λ tells table current. (c.decide_job.ensures.files tells _ table _ (decision_of_step _ _ _ table _ _ _ of current)).files) }
+    let of = decides_so _ _ c.args.number c.args.fate _ c.file.result _ c.self.view_is c.requires.may.legal c.decision_mark-mark.ensures
+    c.unwrap-file.ensures c.file.ensures.found in
+    record {
+      makes = failed_step _ _ _ _ _ _ _ c.from_residual-in_err-self-inside.result
+          c.from_residual-in_err-self-inside.ensures.0 (search rules) (search rules)
+          (λ tells table current. (c.decide_job.ensures.files tells _ table _ (decision_of_step _ _ _ table _ _ _ of current)).files);
+    }
 
 pub invariant_of-self : goal.invariant_of-self
 invariant_of-self g c =
-    let of = decides_so _ _ c.args.number c.args.fate _ c.file.result _ c.self.view_is c.requires.may.legal c.decision_mark-mark.ensures c.unwrap-file.ensures c.file.ensures.found in
-    stored_step _ _ _ _ _ _ of.step_of c.self.invariant c.decide_job.ensures.legal (decides_by c.args.self.table c.args.number c.args.fate).in_range c.in_ok-self-inside.ensures.journal c.in_ok-decide.ensures.decided
+    let of = decides_so _ _ c.args.number c.args.fate _ c.file.result _ c.self.view_is c.requires.may.legal c.decision_mark-mark.ensures
+    c.unwrap-file.ensures c.file.ensures.found in
+    stored_step _ _ _ _ _ _ of.step_of c.self.invariant c.decide_job.ensures.legal
+    (decides_by c.args.self.table c.args.number c.args.fate).in_range c.in_ok-self-inside.ensures.journal c.in_ok-decide.ensures.decided
 
 pub returns : goal.returns
 returns g c =
-    let of = decides_so _ _ c.args.number c.args.fate _ c.file.result _ c.self.view_is c.requires.may.legal c.decision_mark-mark.ensures c.unwrap-file.ensures c.file.ensures.found in
+    let of = decides_so _ _ c.args.number c.args.fate _ c.file.result _ c.self.view_is c.requires.may.legal c.decision_mark-mark.ensures
+    c.unwrap-file.ensures c.file.ensures.found in
     record {
       makes = record {
         inside = search rules;

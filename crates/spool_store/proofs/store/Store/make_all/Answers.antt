@@ -8,7 +8,8 @@ loop-step-init g c = record { inside = search rules; has = none_made c.requires;
 
 pub make-requires-clause-may : goal.make-requires-clause-may
 make-requires-clause-may g c =
-    may_step c.requires c.step-item.result c.loop-step-test.true c.step-item.is c.loop-step.invariant.has c.loop-step.invariant.inside.inside
+    may_step c.requires c.step-item.result c.loop-step-test.true c.step-item.is c.loop-step.invariant.has
+    c.loop-step.invariant.inside.inside
 
 pub make-requires-clause-change : goal.make-requires-clause-change
 make-requires-clause-change g c = next_changes c.requires c.step-item.result c.loop-step-test.true c.step-item.is c.loop-step.invariant.has
@@ -17,7 +18,8 @@ pub returns-in_err-store : goal.returns-in_err-store
 returns-in_err-store g c =
     let p = err_from_is_err_and c.from_residual.result c.from_residual.ensures.1 in
     rw (p.1, p.2, c.loop-step.invariant.counted)
-    (one_stopped c.requires c.step-item.result c.loop-step-test.true c.step-item.is c.loop-step.invariant.has (search rules) c.in_err-store.ensures.makes)
+    (one_stopped c.requires c.step-item.result c.loop-step-test.true c.step-item.is c.loop-step.invariant.has (search rules)
+    c.in_err-store.ensures.makes)
 
 pub loop-step-preserved : goal.loop-step-preserved
 loop-step-preserved g c = record {

@@ -10,8 +10,10 @@ returns-then-marks-lt-COMPACTION_SLOTS c =
     let seen = ap (λ read. read.marks) c.self.view_is in
     elim c.then-marks-lt-COMPACTION_SLOTS.branch [
       | then-marks-lt-COMPACTION_SLOTS-via-then-marks-lt-COMPACTION_SLOTS w ↦
-          few_marks c.as_slice-marks.result.now c.args.self.now.marks (c.as_slice-marks.ensures.value ∙ seen) w.if-marks-lt-COMPACTION_SLOTS.true
+          few_marks c.as_slice-marks.result.now c.args.self.now.marks (c.as_slice-marks.ensures.value ∙ seen)
+          w.if-marks-lt-COMPACTION_SLOTS.true
       | then-marks-lt-COMPACTION_SLOTS-via-else-marks-lt-COMPACTION_SLOTS+then-forgotten_count-marks w ↦
-          few_forgotten c.as_slice-marks.result.now c.args.self.now.marks (c.as_slice-marks.ensures.value ∙ seen) (subst AreLegalMarks seen (sound_legal c.self.inside.marks.items c.self.invariant))
+          few_forgotten c.as_slice-marks.result.now c.args.self.now.marks (c.as_slice-marks.ensures.value ∙ seen)
+          (subst AreLegalMarks seen (sound_legal c.self.inside.marks.items c.self.invariant))
           (omega (arith, w.forgotten_count.ensures, w.if-forgotten_count-marks.true))
     ]

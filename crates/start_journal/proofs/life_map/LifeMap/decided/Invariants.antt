@@ -5,4 +5,5 @@ use Rattle.start_journal.specs.inside.LifeMaps.{lives_by_number}
 use Rattle.start_journal.proofs.life_map.LifeMap.decided.Given as goal
 
 abbrev pub invariant-loop-place : goal.invariant-loop-place
-invariant-loop-place l = l.list.items ≡ filter_map decided_of (l.self-inside.below.entries ++ lives_by_number l.self-inside.first (take l.place l.self-inside.row.items))
+invariant-loop-place l = l.list.items
+    ≡ filter_map decided_of (l.self-inside.below.entries ++ lives_by_number l.self-inside.first (take l.place l.self-inside.row.items))

@@ -16,4 +16,5 @@ returns-in-Ok-Some-clause-known g c = λ _.
     let within : id < length kids.items = omega (arith, kids.ok.0) in
     let kept : child_status c.try_wait.new.self ≡ Some c.in-Ok-Some.status = c.in-Ok-Some.ensures.kept ∙ c.in-Ok-Some.field-0-is in
     ap Some c.ending_of.ensures
-    ∙ sym (ap (option_map ending_for) (ap (option_and_then (λ kid. child_status kid.process)) (slice_get-set kids.items id _ within) ∙ kept))
+    ∙ sym
+    (ap (option_map ending_for) (ap (option_and_then (λ kid. child_status kid.process)) (slice_get-set kids.items id _ within) ∙ kept))

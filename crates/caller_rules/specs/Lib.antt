@@ -1,0 +1,14 @@
+pub mod Admissions
+pub mod DaemonLocks
+pub mod DaemonRequests
+pub mod DaemonStarts
+pub mod FileStatuses
+pub mod MachineLists
+pub mod Notes
+pub mod OptionValues
+pub mod OwnSpool
+pub mod Permission
+pub mod SpoolPaths
+pub mod SpoolUses
+pub mod ToolSpools
+pub mod Users

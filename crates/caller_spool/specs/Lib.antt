@@ -1,3 +1,0 @@
-pub mod Permission
-pub mod Tools
-pub mod Zones

@@ -1,0 +1,41 @@
+-- What the program does by the words of its process (own).
+use Rattle.std.specs.Prelude.{◌≡◌, ◌⊎◌, [], ℕ, List, Option}
+use Rattle.caller_environment.specs.declared.tool_name.ToolName.{ToolName}
+use Rattle.host_calls.specs.declared.host.Host as host
+use Rattle.host_calls.specs.declared.inputs.Inputs as inputs
+use Rattle.host_calls.specs.declared.readings.Readings as readings
+use Rattle.host_calls.specs.declared.sink.Sink as sink
+use Rattle.launcher.specs.ToolEnds.{IsToolEnd}
+use Rattle.launcher.specs.declared.tool_end.HowEnded.{HowEnded}
+use Rattle.listing_text.specs.Cause.{code_of}
+use Rattle.listing_text.specs.declared.cause.Cause.TheVariants.{Refused}
+use Rattle.listing_text.specs.declared.refusal.Refusal.TheVariants.{Usage}
+use Rattle.memory_host.specs.declared.memory_host.MemoryHost.{MemoryHost}
+use Rattle.real_programs.specs.declared.program_exit.ProgramExit.{ProgramExit}
+use Rattle.real_programs.specs.declared.system.ProgramSystem.{ProgramSystem}
+use Rattle.real_programs.specs.declared.witnesses.Witnesses.{Witnesses}
+use Rattle.system_calls.specs.SystemCall.{SystemCall}
+use Rattle.unix_host.specs.declared.host.UnixHost.{UnixHost}
+use Rattle.witnessed_host.specs.declared.noted_sink.NotedSink.{NotedSink}
+use Rattle.witnessed_host.specs.declared.witnessed.Witnessed.{Witnessed}
+use Rattle.witnessed_host.specs.declared.witnessed_inputs.WitnessedInputs.{WitnessedInputs}
+
+-- A tool ended by its words, after no other call on the system, and this is its exit status.
+pub record EndsByName {W V R A B C D E F G I O S L : Type 0} (h : host.Ghosts (Witnessed (UnixHost R A B C D E F G) W))
+    (m : host.Ghosts MemoryHost) (r : readings.Ghosts L) (i : inputs.Ghosts (WitnessedInputs I V))
+    (o : sink.Ghosts (NotedSink O)) (e : sink.Ghosts (NotedSink S)) (witnesses : Witnesses W V) (code : ℕ) : Type 0 where
+  pub tool : ToolName
+  pub words : List (List ℕ)
+  pub own_words : List (List ℕ)
+  pub calls : List SystemCall
+  pub how : HowEnded
+  pub left : Option (ProgramSystem (Witnessed (UnixHost R A B C D E F G) W) L (WitnessedInputs I V) (NotedSink O) (NotedSink S))
+  pub exit : ProgramExit
+  pub end : IsToolEnd h m r i o e tool words own_words witnesses [] calls how left exit
+  pub code_is : code ≡ exit.code
+
+-- a tool ended so, or the words name none
+abbrev pub IsRunByName : {W V R A B C D E F G I O S L : Type 0} → host.Ghosts (Witnessed (UnixHost R A B C D E F G) W) →
+    host.Ghosts MemoryHost → readings.Ghosts L → inputs.Ghosts (WitnessedInputs I V) → sink.Ghosts (NotedSink O) →
+    sink.Ghosts (NotedSink S) → Witnesses W V → ℕ → Type 0
+IsRunByName h m r i o e witnesses code = EndsByName h m r i o e witnesses code ⊎ (code ≡ code_of (Refused Usage))
