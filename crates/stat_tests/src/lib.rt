@@ -1,4 +1,4 @@
-//! Tests of job_states and at_stat over spools in memory: each kind of line, status and refusal; waits; how many calls of
+//! Tests of at_stat over spools in memory: each kind of line, status and refusal; waits; how many calls of
 //! the host a session has.
 #![tactic(auto)]
 
