@@ -13,6 +13,7 @@ use Rattle.std.proofs.lemmas.Bool.{eqb-true}
 use Rattle.std.proofs.lemmas.Bool.Decides.{nat_tests}
 use Rattle.std.proofs.lemmas.List.{take_more}
 use Rattle.std.proofs.lemmas.List.Elements.{filter-append}
+use Rattle.host_calls.proofs.CommonLemmas.{less_than, at_number}
 use Rattle.record_lines.specs.Lines.{AreLegalAfter}
 use Rattle.record_lines.proofs.FileLemmas.{legal_both}
 use Rattle.record_lines.proofs.SayingLemmas.{none_says}
@@ -88,9 +89,6 @@ news_of_number before number known =
     (one_of number (seen_event seen known)) (one_of number (start_event seen started closed known)))
     (one_of number (closing_event seen closed known))
 
-less_than : (one other : ℕ) → nat_cmp one other ≡ Less → one < other
-less_than one other is = grind (arith, nat_tests)
-
 -- those of greater numbers
 news_above : (before : List AccountRecord) (least : ℕ) (known : List Known) → AreAbove least known → Rise known
     → AreFrom (least + 1) (news_of_all before known)
@@ -136,9 +134,6 @@ none_from number (one ∷ later) are =
 abbrev news_at : List AccountRecord → ℕ → Option (Option KnownJob) → List AccountRecord
 news_at before number None = []
 news_at before number (Some known) = news_of before number known
-
-at_number : (number other : ℕ) → is_at (nat_cmp number) other ≡ (other == number)
-at_number number other = grind (arith, nat_tests)
 
 filtered : (before : List AccountRecord) (known : List Known) (number : ℕ) → Rise known
     → filter (is_account_record_of number) (news_of_all before known) ≡ news_at before number (lookup (is_at (nat_cmp number)) known)

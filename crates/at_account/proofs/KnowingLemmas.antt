@@ -73,17 +73,6 @@ put_more make list place one key value old now new inside here made put more num
     ∙ update_all_push at (job_at old) (job_at now) (map make (take place list)) (key, value) number (put number)
     ∙ ap (λ known. jobs_after (job_at old) known number) (sym all)
 
--- the element at a place is there, whatever serves as one beyond the end
-pub one_at : {X : Type 0} (list : List X) (place : ℕ) (other : X) → place < length list
-    → get_or list place other ≡ get_or list place (get_or list place other)
-one_at [] place other inside = absurd (omega arith)
-one_at (first ∷ later) zero other inside = refl
-one_at {X} (first ∷ later) (suc place) other inside = any_other later place other (get_or later place other) (omega arith) where
-  any_other : (list : List X) (place : ℕ) (one two : X) → place < length list → get_or list place one ≡ get_or list place two
-  any_other [] place one two inside = absurd (omega arith)
-  any_other (first ∷ later) zero one two inside = refl
-  any_other (first ∷ later) (suc place) one two inside = any_other later place one two (omega arith)
-
 -- all are put in
 pub put_all : {X : Type 0} (make : X → Known) (list : List X) (place : ℕ) (old new : Jobs) → length list ≤ place
     → ArePut (map make (take place list)) old new → ArePut (map make list) old new

@@ -11,23 +11,15 @@ use Rattle.tool_output.specs.Sinks.{EndsLine, IsPutInPart, IsPutOrCut, IsSilent,
 use Rattle.host_calls.proofs.WorldLemmas.{goes_on_none}
 use Rattle.host_calls.specs.declared.host.Host as host
 use Rattle.host_calls.specs.declared.sink.Sink as sink
-use Rattle.host_calls.specs.Session.{IsLeft, IsOutside, Session}
+use Rattle.host_calls.specs.Session.{IsOutside}
 use Rattle.host_calls.specs.World.{World}
+use Rattle.host_calls.proofs.CommonLemmas.{same_session}
 use Rattle.listing_text.specs.Cause.{cause_line_of}
 use Rattle.listing_text.specs.declared.cause.Cause.{Cause}
 use Rattle.listing_text.specs.declared.cause.Cause.TheVariants.{Done, Refused, FileFault, OutputFault, Busy, Memory, Damaged}
 use Rattle.whole_file.proofs.OthersLemmas.{changes_none}
 use Rattle.tool_output.specs.Outside.{OutsideAt}
 use Rattle.at_account.specs.AccountOutcome.{Accounting, IsAccounting, AccountLeaves}
-
--- nothing was done
-same_session : (session : Session) → IsOutside session → IsLeft session session
-same_session session outside =
-    record {
-      outside = outside;
-      children = refl;
-      counts = record { made_as = refl; file_faults = omega arith; start_faults = omega arith; taken = omega arith };
-    }
 
 same_silent : (at : SinkAt) → IsSilent at at
 same_silent at = record { content = refl; later = omega arith }

@@ -2,6 +2,7 @@
 use Rattle.std.proofs.Common.{◌≡◌, ◌≢◌, Bool, true, false, ℕ, pos, List, [], ◌∷◌, sym, ap, subst, ◌∙◌, refl, inl, inr, arith}
 use Rattle.std.specs.Prelude.{Option, Some, None, Result, Ok, Err, IfErr, IfOk}
 use Rattle.std.proofs.lemmas.List.{append-nil}
+use Rattle.std.proofs.lemmas.Bool.{false≢true}
 use Rattle.at_words.specs.declared.filter.Filter.{Filter}
 use Rattle.at_words.specs.declared.tool_request.ToolRequest.{ToolRequest}
 use Rattle.at_words.specs.declared.tool_request.ToolRequest.TheVariants as request
@@ -37,7 +38,7 @@ use Rattle.at_commands.specs.inside.RequestOutcome.{EndsPrinting, EndsRemoving}
 use Rattle.at_commands.specs.inside.Session.{IsNoOutput, IsSpoolCause}
 use Rattle.at_commands.specs.inside.Sessions.{ListsInSession, ShowsInSession, lists_alone}
 use Rattle.command_rules.proofs.CheckLemmas.{refused_up_to}
-use Rattle.at_commands.proofs.CarryLemmas.{carries_no_memory, carries_unsaid, done_allowed, no_true}
+use Rattle.at_commands.proofs.CarryLemmas.{carries_no_memory, carries_unsaid, done_allowed}
 use Rattle.at_commands.proofs.EndsLemmas.{ends_carried, ends_early}
 use Rattle.at_commands.proofs.UnreadLemmas.{unchecked}
 use Rattle.at_commands.proofs.ForLemmas.{carries_unentered, carries_unopened, keeps_lists, listing_lacks, listing_made, showing_done, showing_stopped}
@@ -50,7 +51,7 @@ pub named_user : (bytes name : List ℕ) → bytes ≡ name → IsUserName bytes
 named_user bytes name same is = subst (λ (of : List ℕ). IsUserName of) same is
 
 pub unnamed_user : (bytes name : List ℕ) → bytes ≡ name → (IsUserName bytes → false ≡ true) → IsUserName name → ⊥
-unnamed_user bytes name same none is = no_true (none (subst (λ (of : List ℕ). IsUserName of) (sym same) is))
+unnamed_user bytes name same none is = false≢true (none (subst (λ (of : List ℕ). IsUserName of) (sym same) is))
 
 -- Nothing is put.
 

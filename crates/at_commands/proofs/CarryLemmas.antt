@@ -4,6 +4,7 @@ use Rattle.std.proofs.lemmas.Bool.Decides.{nat_tests}
 use Rattle.std.proofs.lemmas.Option.{same_Some}
 use Rattle.std.specs.Prelude.{Option, Some, None, Ok, Err}
 use Rattle.std.specs.FinMap as finite
+use Rattle.std.proofs.lemmas.Bool.{false≢true}
 use Rattle.access_lists.specs.Access.{may_use}
 use Rattle.at_words.specs.declared.tool_request.ToolRequest.{ToolRequest}
 use Rattle.host_calls.specs.World.{World, reading}
@@ -29,9 +30,6 @@ use Rattle.at_commands.proofs.EntryLemmas.{IsOfEntry}
 use Rattle.at_commands.proofs.KeptLemmas.{kept_decides}
 use Rattle.command_rules.proofs.CheckLemmas.{allowed_up_to, refused_up_to}
 use Rattle.at_commands.proofs.LateLemmas.{OnTable, any_memory, late_busy, late_file_fault, late_up_to_lists, late_up_to_lock, not_permitted, permitted, spool_late, table_on, table_up_to_directory}
-
-pub no_true : false ≡ true → ⊥
-no_true is = cc
 
 -- what one list of steps leaves, another does that has them all
 pub ends_map : (A B : JobTable → List Step → Type 0) → ((table : JobTable) (steps : List Step) → A table steps → B table steps) →
@@ -150,7 +148,7 @@ module _ (tells alone : Bool) (asked : ToolRequest) (caller : Caller) (finding :
       deny = keeps.deny_is allow deny ∙ (lists known).deny_is;
       table = refl;
     };
-    apart = λ known is_alone early. absurd (no_true early);
+    apart = λ known is_alone early. absurd (false≢true early);
     spool = spool;
   }
 
@@ -203,7 +201,7 @@ module _ (tells alone : Bool) (asked : ToolRequest) (caller : Caller) (finding :
       deny = keeps.deny_is allow deny ∙ (lists known).deny_is;
       table = sym (shows known).shown;
     };
-    apart = λ known is_alone early. absurd (no_true early);
+    apart = λ known is_alone early. absurd (false≢true early);
     spool = λ known is_alone. shows known;
   }
 
@@ -251,7 +249,7 @@ module _ (tells alone : Bool) (asked : ToolRequest) (caller : Caller) (finding :
       deny = keeps.deny_is opened.allow opened.deny ∙ (opened.lists known).deny_is;
       table = sym (opened.recovered known).shown;
     };
-    apart = λ known is_alone early. absurd (no_true (sym later ∙ early));
+    apart = λ known is_alone early. absurd (false≢true (sym later ∙ early));
     spool =
         λ known is_alone. ends_map (AreWorkSteps asked caller found) (AreUnrefusedSteps asked caller found) work_to_session old new cause
         (works_end (AreWorkSteps asked caller found) old middle new opened.table kept (opened.recovered known) cause (works known));
@@ -372,7 +370,7 @@ module _ (tells alone : Bool) (asked : ToolRequest) (caller : Caller) (finding :
     order = subst (λ (of : Option Refusal). KeepsOrder of OutputFault) (sym (done_allowed _ carries.order)) tt;
     up_to = allowed_up_to _ of_output (done_allowed _ carries.order);
     directory = carries.directory;
-    apart = λ known is_alone early. absurd (no_true early);
+    apart = λ known is_alone early. absurd (false≢true early);
     spool = carries.spool;
   }
 
@@ -387,7 +385,7 @@ module _ (tells alone : Bool) (asked : ToolRequest) (caller : Caller) (finding :
     order = any_memory _;
     up_to = allowed_up_to _ of_output (done_allowed _ carries.order);
     directory = carries.directory;
-    apart = λ known is_alone early. absurd (no_true early);
+    apart = λ known is_alone early. absurd (false≢true early);
     spool = λ known is_alone.
         attempt_of (AreUnrefusedSteps asked caller (finding carries.allow carries.deny)) old new Done (carries.spool known is_alone);
   }

@@ -1,13 +1,11 @@
 -- A command, from its words to its last line.
-use Rattle.std.proofs.Common.{◌≡◌, ◌≢◌, ◌⊎◌, ◌≤◌, List, [], ℕ, sym, subst, ◌∙◌, refl, inl, inr, arith, append-nil}
-use Rattle.std.proofs.Math.Nat.{le_trans}
+use Rattle.std.proofs.Common.{◌≡◌, ◌≢◌, ◌⊎◌, ◌≤◌, List, [], ℕ, sym, subst, ◌∙◌, refl, inl, inr, append-nil}
 use Rattle.std.specs.Prelude.{Ok, Err}
 use Rattle.at_words.specs.Answers.{Answers}
 use Rattle.at_words.specs.declared.fault.WordsFault.{WordsFault}
 use Rattle.at_words.specs.declared.fault.WordsFault.TheVariants as words
 use Rattle.at_words.specs.declared.tool_request.ToolRequest.TheVariants as request
-use Rattle.host_calls.specs.Causes.{Rose}
-use Rattle.host_calls.specs.Session.{IsLeft, IsOutside, Session}
+use Rattle.host_calls.specs.Session.{IsLeft, Session}
 use Rattle.host_calls.specs.Sink.{Outlet}
 use Rattle.listing_text.specs.declared.cause.Cause.{Cause}
 use Rattle.listing_text.specs.declared.cause.Cause.TheVariants.{Refused, FileFault, InputFault, OutputFault, Busy, Memory, StillRunning}
@@ -24,6 +22,7 @@ use Rattle.tool_output.specs.Causes.{words_cause}
 use Rattle.at_commands.proofs.UnreadLemmas.{ends_at_words}
 use Rattle.at_commands.proofs.LateLemmas.{any_memory}
 use Rattle.host_calls.specs.Inputs.{AreReadAtMostOnce, Sources}
+use Rattle.host_calls.proofs.CommonLemmas.{rose_later}
 
 -- words are refused, or there is no memory to read them
 abbrev pub IsOfWords : Cause → Type 0
@@ -61,9 +60,6 @@ ends_asked one other caller tells before after cause same ends =
     subst (λ (of : Asked). CommandEnds NotesBy of caller tells before after cause) same ends
 
 -- The line of the cause.
-
-rose_later : (old middle new : ℕ) → Rose old middle → middle ≤ new → Rose old new
-rose_later old middle new rose later = le_trans rose later
 
 -- a count that rose stays so
 pub fails_later : (asked : Asked) (out_old out_new err_old err_middle err_new : Outlet) → err_middle.sink_faults ≤ err_new.sink_faults →
@@ -107,13 +103,6 @@ ends_not_running Notes asked caller tells before after cause ends is = subst (λ
 pub outside_left : (old new : Session) → IsLeft old new → EndsOutside old new
 outside_left old new left =
     record { outside = left.outside; kept = ([], left.children ∙ sym (append-nil old.children)); counts = left.counts }
-
-pub left_same : (session : Session) → IsOutside session → IsLeft session session
-left_same session outside = record {
-  outside = outside;
-  children = refl;
-  counts = record { made_as = refl; file_faults = omega arith; start_faults = omega arith; taken = omega arith };
-}
 
 -- Words that request nothing end with no fault of the outside.
 words_final : (fault : WordsFault) (final : Cause) → (final ≡ words_cause fault) ⊎ (final ≡ Memory) → IsOfWords final

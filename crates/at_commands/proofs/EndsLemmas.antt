@@ -137,9 +137,6 @@ up_to_early None asked caller found shown reached ahead up_to =
     subst (λ (of : Option Refusal). ComesUpTo of reached) (sym (alone (spool_verdict asked caller found shown)))
     (late_up_to (spool_verdict asked caller found shown) reached (spool_late asked caller found shown) ahead)
 
-pub no_true : false ≡ true → ⊥
-no_true is = cc
-
 -- a check before the lock is not after the directory
 before_directory : (place : ℕ) → nat_lt place 11 ≡ true → nat_lt 14 place ≡ false
 before_directory place is = grind (arith, nat_tests)

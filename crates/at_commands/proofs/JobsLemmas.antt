@@ -3,7 +3,8 @@ use Rattle.std.proofs.Common.{◌≡◌, Bool, true, false, cond, ℕ, List, [],
 use Rattle.std.specs.Prelude.{◌==◌, ◌&&◌, ◌||◌, not, Option, Some, None, All, IsTrue, map, option_and_then}
 use Rattle.std.specs.List.{list_any}
 use Rattle.std.proofs.lemmas.List.Elements.{All-cons, All-nil}
-use Rattle.std.proofs.lemmas.Bool.{and_parts, eq-eqb}
+use Rattle.std.proofs.lemmas.Bool.{and_parts, eq-eqb, not-true}
+use Rattle.host_calls.proofs.CommonLemmas.{no_first}
 use Rattle.at_words.specs.Numbers.{are_distinct}
 use Rattle.spool_model.specs.Lists.{is_running}
 use Rattle.listing_text.specs.declared.refusal.Refusal.{Refusal}
@@ -58,11 +59,6 @@ live_by user table number None is none = cc
 live_by user table number (Some (Done fate)) is none = cc
 live_by user table number (Some (Live job state)) is none = (job, state, is)
 
--- numbers that are distinct are apart
-no_first : (b c : Bool) → (b || c) ≡ false → b ≡ false
-no_first true c is = cc
-no_first false c is = refl
-
 no_second : (b c : Bool) → (b || c) ≡ false → c ≡ false
 no_second true c is = cc
 no_second false c is = is
@@ -80,15 +76,11 @@ any_none (first ∷ later) number none (inl same) =
 any_none (first ∷ later) number none (inr has) =
     any_none later number (no_second (first == number) (list_any (λ other. other == number) later) none) has
 
-not_true : (b : Bool) → not b ≡ true → b ≡ false
-not_true true is = cc
-not_true false is = refl
-
 pub distinct_apart : (numbers : List ℕ) → are_distinct numbers ≡ true → Apart numbers
 distinct_apart [] is = tt
 distinct_apart (number ∷ later) is =
     let parts = and_parts (not (list_any (λ other. other == number) later)) (are_distinct later) is in
-    (any_none later number (not_true (list_any (λ other. other == number) later) parts.0), distinct_apart later parts.1)
+    (any_none later number (not-true (list_any (λ other. other == number) later) parts.0), distinct_apart later parts.1)
 
 -- the removal of numbers that no check refuses is legal
 pub removal_allowed : (user : List ℕ) (table : JobTable) (numbers : List ℕ) → IsTrue (are_distinct numbers)

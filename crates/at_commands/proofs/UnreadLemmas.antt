@@ -2,6 +2,7 @@
 use Rattle.std.proofs.Common.{◌≡◌, Bool, false, ℕ, ℤ, pos, List, [], sym, refl, arith, subst}
 use Rattle.std.specs.Prelude.{Option, Some, None, Result, Ok, Err}
 use Rattle.std.specs.FinMap as finite
+use Rattle.std.proofs.lemmas.Bool.{false≢true}
 use Rattle.at_words.specs.declared.tool_request.ToolRequest.TheVariants as request
 use Rattle.civil_minute.specs.declared.zone.Zone.{Zone}
 use Rattle.host_calls.specs.Clock.{Answers}
@@ -20,7 +21,7 @@ use Rattle.command_rules.specs.Found.{Asked, Finds, Found, allow_file, answers_r
 use Rattle.command_rules.specs.Requested.{AreAskedSteps, IsAskedLine, IsAskedText}
 use Rattle.tool_output.specs.Sinks.{IsSilent, NotesBy, SinkAt}
 use Rattle.command_rules.specs.Verdict.{verdict_of}
-use Rattle.at_commands.proofs.EndsLemmas.{IsEarly, no_true, silent_notes, silent_prints, untouched}
+use Rattle.at_commands.proofs.EndsLemmas.{IsEarly, silent_notes, silent_prints, untouched}
 
 -- no check comes before that of the words
 words_first : (check : Check) → is_earlier_check check of_words ≡ false
@@ -61,7 +62,7 @@ answers_unread (Err fault) now answers = refl
 finds_unread : (tells : Bool) (asked : Asked) (zone : Zone) (contents : Contents) (found : Found)
     → Finds tells asked zone contents of_words found
 finds_unread tells (Ok (request.Submit queue mail file when)) zone contents found =
-    record { time = λ beyond. absurd (no_true beyond); commands = λ known beyond. absurd (no_true beyond) }
+    record { time = λ beyond. absurd (false≢true beyond); commands = λ known beyond. absurd (false≢true beyond) }
 finds_unread tells (Ok (request.List filter)) zone contents found = tt
 finds_unread tells (Ok (request.Remove numbers)) zone contents found = tt
 finds_unread tells (Ok (request.Show numbers)) zone contents found = tt

@@ -7,6 +7,7 @@ use Rattle.std.specs.declared.cmp.Ordering.TheVariants.{Less}
 use Rattle.std.proofs.lemmas.Cmp.{ranked}
 use Rattle.std.proofs.lemmas.List.{get_or-map, length-map}
 use Rattle.std.proofs.lemmas.List.Elements.{All-contains_itself}
+use Rattle.host_calls.proofs.CommonLemmas.{first_of_both, second_of_both}
 use Rattle.step_runs.specs.WithoutScripts.{without_scripts, entry_without_script}
 use Rattle.step_runs.proofs.WithoutScriptsLemmas.{entries_are_without_scripts}
 use Rattle.step_runs.proofs.ListLemmas.{lists_as_on_the_table}
@@ -17,7 +18,7 @@ use Rattle.spool_model.specs.declared.row.Row.{Row}
 use Rattle.spool_model.specs.declared.number.TheConstants.{LAST_NUMBER}
 use Rattle.spool_model.specs.JobTable.{IsDrawn, IsSound, JobEntry, JobTable, entry_at}
 use Rattle.spool_model.specs.Lists.{done_numbers, live_rows}
-use Rattle.spool_shows.proofs.EntryLists.{below, left, right}
+use Rattle.spool_shows.proofs.EntryLists.{below}
 use Rattle.spool_store.specs.Listed.{ListsDecided, ListsLive}
 use Rattle.spool_store.specs.Rows.{decided_entry, row_entry}
 use Rattle.spool_store.proofs.CountLemmas.{decided_listed, rows_listed}
@@ -75,7 +76,7 @@ few_between (entry ∷ later) low high under rises fits each =
     let above : low < entry.0 = ranked low entry.0 Less (sym (below nat_cmp low (entry ∷ later) entry under (inl refl))) in
     let here : entry.0 ≤ high = each 0 entry (omega arith) in
     let rest : entry.0 + length later ≤ high =
-    few_between later entry.0 high (left _ _ rises) (right _ _ rises) here (λ k d inside. each (suc k) d (omega arith)) in
+    few_between later entry.0 high (first_of_both _ _ rises) (second_of_both _ _ rises) here (λ k d inside. each (suc k) d (omega arith)) in
     omega arith
 
 -- entries that rise, each under a number from 1 to the last, are no more than that
@@ -86,7 +87,7 @@ listed_few make (first ∷ later) last rises each =
     let here : (1 ≤ (make first).0) × ((make first).0 ≤ last) = each 0 first (omega arith) in
     let counted : length (map make later) ≡ length later = length-map later make in
     let few : (make first).0 + length (map make later) ≤ last =
-    few_between (map make later) (make first).0 last (left _ _ rises) (right _ _ rises) here.1
+    few_between (map make later) (make first).0 last (first_of_both _ _ rises) (second_of_both _ _ rises) here.1
     (λ k d inside. let within : k < length later = omega arith in
     subst (λ (entry : ℕ × JobEntry). entry.0 ≤ last) (sym (get_or-map make later k first d within)) (each (suc k) first (omega arith)).1) in
     let low : 1 ≤ (make first).0 = here.0 in

@@ -1,9 +1,8 @@
 -- A session in which the directory is recovered and counted.
-use Rattle.std.proofs.Common.{◌≡◌, ◌≤◌, ℕ, List, sym, ap, subst, ◌∙◌, inl, inr, arith}
+use Rattle.std.proofs.Common.{◌≡◌, ℕ, List, sym, ap, subst, ◌∙◌, inl, inr}
 use Rattle.std.specs.Prelude.{Result, Ok, Err, count_by}
 use Rattle.command_rules.proofs.SpoolLemmas.{unbegun_same}
 use Rattle.host_calls.proofs.SessionLemmas.{counts_on}
-use Rattle.host_calls.specs.Causes.{Rose}
 use Rattle.host_calls.specs.Session.{IsLeft, KeepsCounts, Session, StaysInside}
 use Rattle.host_calls.specs.World.{World}
 use Rattle.step_runs.specs.Attempts.{IsUnbegun}
@@ -19,13 +18,10 @@ use Rattle.spool_store.specs.Listed.{ListsDecided, ListsLive}
 use Rattle.spool_store.specs.Recovery.{IsRecovered}
 use Rattle.host_calls.specs.declared.store_fault.StoreFault.{StoreFault}
 use Rattle.host_calls.specs.declared.store_fault.StoreFault.TheVariants as fault
+use Rattle.host_calls.proofs.CommonLemmas.{rose_within}
 use Rattle.at_day.specs.declared.counts.Counts.{Counts}
 use Rattle.at_day.specs.JobCounts.{CountsBy, IsTableCounted, done_so, is_running_row, is_waiting_row, was_finished, was_interrupted, was_not_started, was_removed}
 use Rattle.at_day.proofs.CountLemmas.{done_counted, live_is}
-
--- a count that rose on the way has risen in all
-rose_within : (first old new last : ℕ) → first ≤ old → new ≤ last → Rose old new → Rose first last
-rose_within first old new last before later rose = omega arith
 
 counts_within : (first old new last : Session) → KeepsCounts first old → KeepsCounts new last → (world : World)
     (result : Result Counts StoreFault) → CountsBy old new world result → CountsBy first last world result

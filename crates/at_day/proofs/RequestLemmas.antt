@@ -2,6 +2,7 @@
 use Rattle.std.proofs.Common.{◌≡◌, ◌≤◌, ℕ, Bool, true, false, List, refl, arith, codes, drop, if◌then◌else◌}
 use Rattle.std.proofs.lemmas.Bool.Decides.{nat_tests}
 use Rattle.std.specs.Prelude.{◌-◌, ◌&&◌, [], ◌∷◌, Option, Some, None, Ok, Err, nat_le, option_map}
+use Rattle.std.proofs.lemmas.Bool.{false≢true}
 use Rattle.clap.specs.Kinds.{Kinds}
 use Rattle.clap.specs.Simple.{matches_of}
 use Rattle.clap.specs.Faults.{fault_of}
@@ -59,17 +60,14 @@ day_to : (texts : List Text) → IsDayAsked (request_to Atday texts)
 unfolding request_to
 day_to texts = taken (fault_of atday_app texts) (atday_asked (matches_of atday_app texts)) (day_rows (matches_of atday_app texts))
 
-no_bool : false ≡ true → ⊥
-no_bool is = cc
-
 day_by : (found : Option (Tool × ℕ)) (texts : List Text) → finds_day_maker found ≡ true → IsDayAsked (request_by found texts)
-day_by None texts is = absurd (no_bool is)
+day_by None texts is = absurd (false≢true is)
 day_by (Some (Atday, start)) texts is = day_to (drop (start - 1) texts)
-day_by (Some (At, start)) texts is = absurd (no_bool is)
-day_by (Some (Batch, start)) texts is = absurd (no_bool is)
-day_by (Some (Atq, start)) texts is = absurd (no_bool is)
-day_by (Some (Atrm, start)) texts is = absurd (no_bool is)
-day_by (Some (Atd, start)) texts is = absurd (no_bool is)
+day_by (Some (At, start)) texts is = absurd (false≢true is)
+day_by (Some (Batch, start)) texts is = absurd (false≢true is)
+day_by (Some (Atq, start)) texts is = absurd (false≢true is)
+day_by (Some (Atrm, start)) texts is = absurd (false≢true is)
+day_by (Some (Atd, start)) texts is = absurd (false≢true is)
 
 pub day_asked : (texts : List Text) → asks_for_day texts ≡ true → IsDayAsked (request_of texts)
 day_asked texts is = day_by (tool_of_words texts) texts is

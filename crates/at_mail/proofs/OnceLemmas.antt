@@ -5,13 +5,14 @@ use Rattle.std.specs.FinMap as finite
 use Rattle.std.proofs.lemmas.List.{append_cancel_right}
 use Rattle.host_calls.specs.declared.child.Handed.{Handed}
 use Rattle.host_calls.specs.Directory.{Files, Directory, IsImage}
-use Rattle.host_calls.specs.World.{AllMoments, AnyMoment, HasEachImage, LeavesOnly, Moment, World, moments, reading}
+use Rattle.host_calls.specs.World.{AllMoments, HasEachImage, LeavesOnly, World, moments, reading}
 use Rattle.host_calls.proofs.DirectoryLemmas.{reading_is_image}
 use Rattle.host_calls.proofs.WorldLemmas.{AtEach-append, leaves_weaker}
 use Rattle.at_words.specs.Numbers.{are_distinct}
 use Rattle.spool_model.specs.JobTable.{JobTable}
 use Rattle.host_calls.specs.declared.turn_end.TurnEnd.{TurnEnd}
 use Rattle.host_calls.specs.declared.turn_end.TurnEnd.TheVariants.{Done, Busy, FileFault, Damaged, Memory}
+use Rattle.host_calls.proofs.CommonLemmas.{at_one}
 use Rattle.mail_notes.specs.declared.note.Note.{Note}
 use Rattle.mail_notes.specs.Hands.{Mailing}
 use Rattle.mail_notes.specs.Names.{mail_file}
@@ -214,11 +215,6 @@ event_keeps retired opening old new inv apart notes_none (a_session is) =
 event_keeps retired opening old new inv apart notes_none (a_noting is) =
     noting_keeps retired opening old new inv is (λ number of. notes_none number of is)
 event_keeps retired opening old new inv apart notes_none (another is) = beside_keeps retired opening old new inv is
-
--- what holds of each moment holds of one of them
-at_one : (P : Moment → Type 0) (list : List Moment) (at : Moment) → AllMoments P list → AnyMoment (λ moment. moment ≡ at) list → P at
-at_one P [] at all some = absurd some
-at_one P (here ∷ others) at all some = elim some [ inl same ↦ subst P same all.0 | inr later ↦ at_one P others at all.1 later ]
 
 pub crash_keeps : (retired : ℕ → Type 0) (opening : List Handed) (old during new : World) → HasEachImage (IsOnce retired opening) old.now
     → KeepsOnce retired opening old during

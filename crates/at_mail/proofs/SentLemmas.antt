@@ -2,13 +2,14 @@
 use Rattle.std.proofs.Common.{◌≡◌, ◌∙◌, ◌<◌, ◌^◌, ◌⊎◌, ℕ, zero, suc, Bool, true, false, List, [], ◌∷◌, ◌++◌, drop, length, length-drop, length-take, map, refl, sym, ap, subst, inl, inr, append-nil, append_assoc, arith}
 use Rattle.std.specs.Prelude.{◌||◌, ◌&&◌, ◌==◌, Contains, Option, Some, None, filter, is_none, not}
 use Rattle.std.specs.List.{All, AllPairs, cons_option, filter_map, list_any, slice_range}
-use Rattle.std.proofs.lemmas.Bool.{and_parts, eqb-true}
+use Rattle.std.proofs.lemmas.Bool.{and_parts, eqb-true, or_cases}
 use Rattle.std.proofs.lemmas.Bool.Decides.{eqb_tells}
 use Rattle.std.proofs.lemmas.List.{map-append}
 use Rattle.std.proofs.lemmas.List.Elements.{All-cons, All-contains, All-contains_itself, All-head, All-nil, All-tail, All-weaker, filter-append}
 use Rattle.std.proofs.lemmas.List.Folds.{list_any-append}
 use Rattle.host_calls.specs.declared.child.Handed.{Handed}
 use Rattle.host_calls.specs.Directory.{Files}
+use Rattle.host_calls.proofs.CommonLemmas.{no_first}
 use Rattle.at_words.specs.Numbers.{are_distinct}
 use Rattle.job_name.specs.JobName.{SpellsJobName}
 use Rattle.job_script.specs.HeaderIn.{alike, has_user, header_in}
@@ -44,13 +45,9 @@ has number numbers = list_any (λ other. other == number) numbers
 pub has_both : (number : ℕ) (first second : List ℕ) → has number (first ++ second) ≡ (has number first || has number second)
 has_both number first second = list_any-append (λ other. other == number) first second
 
-either : (one other : Bool) → (one || other) ≡ true → (one ≡ true) ⊎ (other ≡ true)
-either true other is = inl refl
-either false other is = inr is
-
 pub has_either : (number : ℕ) (first second : List ℕ) → has number (first ++ second) ≡ true
     → (has number first ≡ true) ⊎ (has number second ≡ true)
-has_either number first second is = either (has number first) (has number second) (sym (has_both number first second) ∙ is)
+has_either number first second is = or_cases (has number first) (has number second) (sym (has_both number first second) ∙ is)
 
 one_is : (one other : Bool) → one ≡ true → (one || other) ≡ true
 one_is one other is = rw is refl
@@ -146,7 +143,7 @@ by_now_numbers of notes image given (inr lacks) = (
 -- a number whose notice was sent is closed
 closed_of_sent : (number : ℕ) (notes : List Note) → has number (sent_numbers notes) ≡ true → has_closing_note number notes ≡ true
 closed_of_sent number [] is = is
-closed_of_sent number (Sent one ∷ later) is = elim (either (one == number) (has number (sent_numbers later)) is) [
+closed_of_sent number (Sent one ∷ later) is = elim (or_cases (one == number) (has number (sent_numbers later)) is) [
   | inl same ↦ one_is ((one == number) && true) (has_closing_note number later) (rw same refl)
   | inr rest ↦ other_is ((one == number) && true) (has_closing_note number later) (closed_of_sent number later rest)
 ]
@@ -171,7 +168,7 @@ closed_more number notes later is =
 -- a number whose notice was sent is named
 pub named_of_sent : (number : ℕ) (notes : List Note) → has number (sent_numbers notes) ≡ true → has_note_of number notes ≡ true
 named_of_sent number [] is = is
-named_of_sent number (Sent one ∷ later) is = elim (either (one == number) (has number (sent_numbers later)) is) [
+named_of_sent number (Sent one ∷ later) is = elim (or_cases (one == number) (has number (sent_numbers later)) is) [
   | inl same ↦ one_is (one == number) (has_note_of number later) same
   | inr rest ↦ other_is (one == number) (has_note_of number later) (named_of_sent number later rest)
 ]
@@ -180,10 +177,6 @@ named_of_sent number (Dropped one ∷ later) is = other_is (one == number) (has_
 
 neither : (one other : Bool) → one ≡ false → other ≡ false → (one || other) ≡ false
 neither one other is rest = rw (is, rest) refl
-
-not_one : (one other : Bool) → (one || other) ≡ false → one ≡ false
-not_one true other is = is
-not_one false other is = refl
 
 -- a number that neither of two lists of notes names, and one that both don't
 
@@ -195,7 +188,7 @@ unnamed_both number first second one two = list_any-append (is_note_of number) f
 pub unnamed_first : (number : ℕ) (first second : List Note) → has_note_of number (first ++ second) ≡ false
     → has_note_of number first ≡ false
 unnamed_first number first second is =
-    not_one (has_note_of number first) (has_note_of number second) (sym (list_any-append (is_note_of number) first second) ∙ is)
+    no_first (has_note_of number first) (has_note_of number second) (sym (list_any-append (is_note_of number) first second) ∙ is)
 
 -- What is due.
 
@@ -223,7 +216,7 @@ each_sent P table (job ∷ later) all number is =
     let rest = each_sent P table later (All-tail (λ one. P one.number) job later all) number in
     elim (sent_step job (entry_at table job.number) (dues_in table later)) [
       | inl same ↦ rest (sym (ap (has number) same) ∙ is)
-      | inr more ↦ elim (either (job.number == number) (has number (sents_in table later)) (sym (ap (has number) more) ∙ is)) [
+      | inr more ↦ elim (or_cases (job.number == number) (has number (sents_in table later)) (sym (ap (has number) more) ∙ is)) [
         | inl here ↦ subst P (eqb-true job.number number here) (All-head (λ one. P one.number) job later all)
         | inr there ↦ rest there
       ]

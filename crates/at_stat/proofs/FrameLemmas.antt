@@ -5,10 +5,11 @@ use Rattle.at_words.specs.declared.filter.Filter.{Filter}
 use Rattle.tool_output.specs.declared.command_error.CommandError.{CommandError}
 use Rattle.tool_output.specs.Outside.{ClockAt, Telling}
 use Rattle.host_calls.specs.Causes.{Rose}
-use Rattle.host_calls.specs.Session.{IsLeft, IsOutside, Session}
+use Rattle.host_calls.specs.Session.{IsLeft, IsOutside}
 use Rattle.host_calls.specs.World.{TimePasses}
 use Rattle.host_calls.proofs.WorldLemmas.{goes_on_none, goes_on_then}
-use Rattle.host_calls.proofs.SessionLemmas.{counts_on, no_counts}
+use Rattle.host_calls.proofs.SessionLemmas.{counts_on}
+use Rattle.host_calls.proofs.CommonLemmas.{same_session}
 use Rattle.listing_text.specs.declared.cause.Cause.{Cause}
 use Rattle.listing_text.specs.declared.cause.Cause.TheVariants.{Busy, FileFault, Memory}
 use Rattle.step_runs.specs.Current.{Kept}
@@ -21,12 +22,9 @@ pub record Frame (tells : Telling) (old new : WaitAt) : Type 0 where
   pub goes_on : tells.files ≡ true → TimePasses old.spool.world new.spool.world
   pub readers : new.clock.readers ≡ old.clock.readers
 
-same_left : (session : Session) → IsOutside session → IsLeft session session
-same_left session outside = record { outside = outside; children = refl; counts = no_counts session }
-
 pub no_frame : (tells : Telling) (at : WaitAt) → IsOutside at.spool.session → Frame tells at at
 no_frame tells at outside = record {
-  left = same_left at.spool.session outside;
+  left = same_session at.spool.session outside;
   goes_on = λ known. goes_on_none at.spool.world at.spool.world refl;
   readers = refl;
 }
@@ -49,7 +47,7 @@ module _ (tells : Telling) (user : List ℕ) (which : Filter) where
 
   rest_frame : (old new : WaitAt) → IsOutside old.spool.session → RestsBetween tells old new → Frame tells old new
   rest_frame old new outside rests = record {
-    left = subst (λ (spool : SpoolAt). IsLeft old.spool.session spool.session) (sym rests.spool) (same_left old.spool.session outside);
+    left = subst (λ (spool : SpoolAt). IsLeft old.spool.session spool.session) (sym rests.spool) (same_session old.spool.session outside);
     goes_on = λ known. goes_on_none old.spool.world new.spool.world (ap (λ (spool : SpoolAt). spool.world) rests.spool);
     readers = rests.clock.readers;
   }

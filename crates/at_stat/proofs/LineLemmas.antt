@@ -3,9 +3,10 @@ use Rattle.std.proofs.Common.{◌≡◌, ℕ, ◌+◌, ◌<◌, List, [], ◌∷
 use Rattle.std.specs.Prelude.{Result, Ok, Err, IfOk, OnOk}
 use Rattle.std.specs.List.{AllZip}
 use Rattle.std.proofs.lemmas.List.{take_more}
+use Rattle.host_calls.proofs.CommonLemmas.{concat_push}
 use Rattle.civil_minute.specs.declared.zone.Zone.{Zone}
 use Rattle.spool_model.specs.JobTable.{JobTable}
-use Rattle.job_listing.proofs.LineLemmas.{concat_push, zip_push}
+use Rattle.job_listing.proofs.LineLemmas.{zip_push}
 use Rattle.at_stat.specs.declared.form.Form.{Form}
 use Rattle.at_stat.specs.Reports.{IsReport, ShowsNumber}
 

@@ -1,7 +1,7 @@
 -- The checks of what the caller has, as tests.
 use Rattle.std.proofs.Common.{◌≡◌, Bool, true, false, cond, ℕ, List, [], ◌∷◌, length, sym, ◌∙◌, refl}
-use Rattle.std.specs.Prelude.{◌==◌, not, slice_index, Option, Some, None}
-use Rattle.std.proofs.lemmas.Bool.{and_from, and_parts, eq-eqb, leb-true, le-leb, ne_eqb}
+use Rattle.std.specs.Prelude.{◌==◌, slice_index, Option, Some, None}
+use Rattle.std.proofs.lemmas.Bool.{and_from, and_parts, eq-eqb, leb-true, le-leb, ne_eqb, not-true, not_from_false}
 use Rattle.civil_minute.specs.declared.zone.Zone.{Zone}
 use Rattle.civil_minute.specs.declared.zone.Zone.TheVariants.{Utc, Rules, Unreadable}
 use Rattle.civil_minute.specs.Zone.{IsReadable, is_unreadable}
@@ -11,14 +11,6 @@ use Rattle.listing_text.specs.declared.refusal.Refusal.{Refusal}
 use Rattle.listing_text.specs.declared.refusal.Refusal.TheVariants.{BadUser, BadZone}
 use Rattle.spool_model.specs.Users.{IsUserName}
 use Rattle.command_rules.specs.Verdict.{first_refusal, user_check, zone_check}
-
-no_not : (b : Bool) → not b ≡ true → b ≡ false
-no_not true is = cc
-no_not false is = refl
-
-yes_not : (b : Bool) → b ≡ false → not b ≡ true
-yes_not true is = cc
-yes_not false is = refl
 
 -- what passes the test is a user's name
 pub user_named : (name : List ℕ) → is_user_name name ≡ true → IsUserName name
@@ -30,7 +22,7 @@ user_named name is =
       some = leb-true _ _ sizes.0;
       few = leb-true _ _ sizes.1;
       each = prefix.1;
-      no_dash = λ same. (let no : (slice_index name 0 == 45) ≡ false = no_not (slice_index name 0 == 45) whole.1 in
+      no_dash = λ same. (let no : (slice_index name 0 == 45) ≡ false = not-true (slice_index name 0 == 45) whole.1 in
           let yes : (slice_index name 0 == 45) ≡ true = eq-eqb (slice_index name 0) 45 same in
           let two : true ≡ false = sym yes ∙ no in cc);
     }
@@ -39,7 +31,7 @@ user_named name is =
 pub name_passes : (name : List ℕ) → IsUserName name → is_user_name name ≡ true
 name_passes name is =
     and_from _ _ (and_from _ _ (and_from _ _ (le-leb 1 (length name) is.some) (le-leb (length name) 32 is.few)) is.each)
-    (yes_not (slice_index name 0 == 45) (ne_eqb (slice_index name 0) 45 is.no_dash))
+    (not_from_false (slice_index name 0 == 45) (ne_eqb (slice_index name 0) 45 is.no_dash))
 
 name_fails : (name : List ℕ) (test : Bool) → is_user_name name ≡ test → (IsUserName name → ⊥) → test ≡ false
 name_fails name true is none = absurd (none (user_named name is))

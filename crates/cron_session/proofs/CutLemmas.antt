@@ -5,8 +5,9 @@ use Rattle.std.proofs.lemmas.List.{append_cancel_right}
 use Rattle.host_calls.specs.ClockRange.{IsClockSecond}
 use Rattle.host_calls.specs.declared.child.Handed.{Handed}
 use Rattle.host_calls.specs.Directory.{Files, IsImage}
-use Rattle.host_calls.specs.World.{AllMoments, AnyMoment, HasEachImage, LeavesOnly, Moment, World, moments, reading}
+use Rattle.host_calls.specs.World.{AllMoments, HasEachImage, LeavesOnly, World, moments, reading}
 use Rattle.host_calls.proofs.WorldLemmas.{AtEach-append, leaves_none}
+use Rattle.host_calls.proofs.CommonLemmas.{at_one}
 use Rattle.whole_file.specs.Others.{ChangesFiles}
 use Rattle.whole_file.proofs.ChangesJoined.{left_alone}
 use Rattle.spool_model.specs.declared.job.Job.{Job}
@@ -20,14 +21,6 @@ use Rattle.cron_session.specs.Minutes.{CutOff, CutSessionsPass, IsCrashOfSession
 use Rattle.cron_session.specs.Steps.{Cron, minute_of, submissions}
 use Rattle.cron_session.proofs.MinuteLemmas.{IsMarkedSo, unmarked_has_nothing_new}
 
--- what each of the moments has, one of them has
-one_of_each : (P : Moment → Type 0) (list : List Moment) (at : Moment) → AllMoments P list → AnyMoment (λ moment. moment ≡ at) list → P at
-one_of_each P [] at each some = absurd some
-one_of_each P (here ∷ others) at each some = elim some [
-  | inl same ↦ subst P same each.0
-  | inr later ↦ one_of_each P others at each.1 later
-]
-
 -- what each image of each moment of a call has, and each of its start, the image of a crash has
 module _ (old during new : World) (crash : IsCrashOfSession old during new) where
   crash_of : (P : Files → List Handed → Type 0) → LeavesOnly P old during → HasEachImage P old.now →
@@ -36,7 +29,7 @@ module _ (old during new : World) (crash : IsCrashOfSession old during new) wher
       let same : leaves.more ≡ crash.more = append_cancel_right leaves.more crash.more (moments old) (sym leaves.run ∙ crash.run) in
       let each : AllMoments (HasEachImage P) (crash.more ++ old.now ∷ []) =
       AtEach-append (HasEachImage P) crash.more (old.now ∷ []) (subst (AllMoments (HasEachImage P)) same leaves.each) (start, tt) in
-      one_of_each (HasEachImage P) (crash.more ++ old.now ∷ []) crash.at each crash.is_one crash.image crash.was
+      at_one (HasEachImage P) (crash.more ++ old.now ∷ []) crash.at each crash.is_one crash.image crash.was
 
   changes_crash : (Q : Files → Type 0) → ChangesFiles Q old during → ((image : Files) → IsImage old.now.directory image → Q image) →
       Q crash.image

@@ -1,6 +1,6 @@
 -- The reader of the first pattern of a text reads its spelling, and nothing else.
 use Rattle.std.proofs.Common.{◌≡◌, ◌∙◌, ℕ, ◌<◌, Bool, true, false, not, cond, nat_lt, IsTrue, List, [], ◌∷◌, ◌++◌, length, length-append, take, drop, get_or, Some, refl, sym, arith}
-use Rattle.std.proofs.lemmas.Bool.{and_parts}
+use Rattle.std.proofs.lemmas.Bool.{and_parts, not-true}
 use Rattle.std.proofs.lemmas.Bool.Decides.{nat_tests}
 use Rattle.std.proofs.Math.Seq.{drop-append_seam, take-append_seam}
 use Rattle.std.proofs.lemmas.List.Sums.{split_at_first, passes_at_first, take_while-cons}
@@ -18,17 +18,13 @@ use Rattle.cron_text.proofs.FieldLemmas.{field_sound, field_complete}
 abbrev is_no_blank : ℕ → Bool
 is_no_blank byte = not (is_blank byte)
 
-not_true : (test : Bool) → not test ≡ true → test ≡ false
-not_true true e = cc
-not_true false e = refl
-
 -- the first blank comes after what has none
 position-pattern : (pattern : List ℕ) (blank : ℕ) (others : List ℕ) → IsTrue (has_no_blank pattern) → is_blank blank ≡ true
     → position_or_len is_blank (pattern ++ blank ∷ others) ≡ length pattern
 position-pattern [] blank others whole parted = rw parted refl
 position-pattern (byte ∷ pattern) blank others whole parted =
     let both = and_parts (is_no_blank byte) (has_no_blank pattern) whole in
-    let first : is_blank byte ≡ false = not_true (is_blank byte) both.0 in
+    let first : is_blank byte ≡ false = not-true (is_blank byte) both.0 in
     let more = position-pattern pattern blank others both.1 parted in
     rw (first, more) (omega arith)
 

@@ -12,6 +12,7 @@ use Rattle.civil_minute.specs.Zone.{IsReadable}
 use Rattle.tool_output.specs.Causes.{cause_of_script, words_cause}
 use Rattle.tool_output.specs.declared.caller.Caller.{Caller}
 use Rattle.host_calls.specs.Causes.{Rose}
+use Rattle.host_calls.proofs.CommonLemmas.{rose_later}
 use Rattle.job_script.specs.Check.{first_fault}
 use Rattle.job_script.specs.declared.fault.ScriptFault.{ScriptFault}
 use Rattle.job_script.specs.declared.fault.ScriptFault.TheVariants as script
@@ -157,9 +158,6 @@ does_risen (Err fault) tells caller old new why (inr refused) =
 does_risen (Ok request) tells caller old new why (inr works) =
     unless_risen (first_fault caller.context) caller.zone tells caller request old new why works
 
-rose_to : (was middle now : ℕ) → Rose was middle → middle ≤ now → Rose was now
-rose_to was middle now rose more = omega (arith, rose, more)
-
 -- and so of the program, whose last line is said after all else
 pub runs_risen : (asked : Result CronRequest WordsFault) (tells : Telling) (caller : Caller) (old done new : WorkAt CronAt)
     (why final : Cause) → RunsOrLacksMemory asked tells caller old done why → IsEnded tells.errors why done new final
@@ -172,6 +170,6 @@ runs_risen asked tells caller old done new why final does ended later = by_sayin
   by_saying (inl same) = record {
     input_fault = λ is. subst (λ (at : InputAt). Rose old.input.sources.input_faults at.sources.input_faults) (sym ended.input)
         (risen.input_fault (sym same.0 ∙ is));
-    output_fault = λ is. rose_to old.said.faults done.said.faults new.said.faults (risen.output_fault (sym same.0 ∙ is)) later;
+    output_fault = λ is. rose_later old.said.faults done.said.faults new.said.faults (risen.output_fault (sym same.0 ∙ is)) later;
   }
   by_saying (inr memory) = neither old new final (λ is. (let other = sym memory.1 ∙ is in cc)) (λ is. (let other = sym memory.1 ∙ is in cc))

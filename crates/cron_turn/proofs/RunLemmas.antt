@@ -2,8 +2,9 @@
 use Rattle.std.proofs.Common.{◌≡◌, ◌∙◌, ◌+◌, ◌<◌, ◌++◌, ℕ, Bool, List, [], ◌∷◌, Option, Some, None, length, refl, sym, ap, subst, inr, arith, le_refl, length-append}
 use Rattle.cron_session.specs.SessionOutcome.{CronAt}
 use Rattle.tool_output.specs.Outside.{ClockAt, RestsBefore, RestsOn, Telling, WorkAt}
-use Rattle.host_calls.specs.Session.{IsLeft, IsOutside, Session}
-use Rattle.host_calls.proofs.SessionLemmas.{counts_on, no_counts}
+use Rattle.host_calls.specs.Session.{IsOutside}
+use Rattle.host_calls.proofs.SessionLemmas.{counts_on}
+use Rattle.host_calls.proofs.CommonLemmas.{same_session}
 use Rattle.listing_text.specs.declared.cause.Cause.{Cause}
 use Rattle.listing_text.specs.declared.cause.Cause.TheVariants.{Done}
 use Rattle.tool_output.specs.declared.caller.Caller.{Caller}
@@ -14,13 +15,9 @@ use Rattle.cron_turn.specs.CronRuns.{EndsAfter, MakesCronSessions, RunsSessions,
 use Rattle.cron_turn.specs.Sessions.{IsSessionMade, Stops}
 use Rattle.cron_turn.specs.inside.NextSession.{ContinuesAfter, HasMadeSessions, SaysSession, Turns}
 
--- a session that is not on stays so
-pub left_so : (session : Session) → IsOutside session → IsLeft session session
-left_so session outside = record { outside = outside; children = refl; counts = no_counts session }
-
 pub stays_same : (at : WorkAt CronAt) → IsOutside at.spool.session → StaysSo at at
 stays_same at outside = record {
-  left = left_so at.spool.session outside;
+  left = same_session at.spool.session outside;
   readers = refl;
   contents = refl;
   made_as = refl;
@@ -52,7 +49,7 @@ pub stays_rested : (tells : Bool) (rest : Option ℕ) (at : WorkAt CronAt) (new 
     → RestsOn tells rest at.clock new
     → StaysSo at (record { spool = at.spool; clock = new; input = at.input; said = at.said })
 stays_rested tells rest at new outside rests = record {
-  left = left_so at.spool.session outside;
+  left = same_session at.spool.session outside;
   readers = rested_readers tells rest at.clock new rests;
   contents = refl;
   made_as = refl;

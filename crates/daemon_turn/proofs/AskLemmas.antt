@@ -7,6 +7,7 @@ use Rattle.host_calls.specs.declared.child.Asked.{Asked}
 use Rattle.host_calls.specs.declared.child.Child.{Child}
 use Rattle.host_calls.specs.declared.child.Ending.{Ending}
 use Rattle.host_calls.specs.World.{Asks, World}
+use Rattle.host_calls.proofs.CommonLemmas.{one_at}
 use Rattle.spool_model.specs.JobTable.{JobTable}
 use Rattle.step_runs.specs.Current.{IsCurrent, Kept}
 use Rattle.step_runs.specs.Made.{AreMade}
@@ -72,10 +73,6 @@ same_default [] count one other below = absurd (omega arith)
 same_default (first ∷ items) zero one other below = refl
 same_default (first ∷ items) (suc count) one other below = same_default items count one other (omega arith)
 
-pub at_place : {X : Type 0} (items : List X) (count : ℕ) (default : X) → count < length items
-    → get_or items count default ≡ get_or items count (get_or items count default)
-at_place items count default below = same_default items count default (get_or items count default) below
-
 pub one_asked : (tells : Bool) (kids : List Kid) (count : ℕ) (known last : List TurnStep) (old middle new : World) (default : Kid)
     (answer : Option Ending) →
     count < length kids → HasAsked tells kids count known old middle →
@@ -84,7 +81,7 @@ pub one_asked : (tells : Bool) (kids : List Kid) (count : ℕ) (known last : Lis
     HasAsked tells kids (count + 1) last old new
 one_asked tells kids count known last old middle new default answer below has written asks =
     let kid : Kid = get_or kids count default in
-    let at : kid ≡ get_or kids count kid = at_place kids count default below in
+    let at : kid ≡ get_or kids count kid = one_at kids count default below in
     let below_now : length has.answers < length kids = subst (λ (n : ℕ). n < length kids) (sym has.counted) below in
     let at_now : kid ≡ get_or kids (length has.answers) kid = subst (λ (n : ℕ). kid ≡ get_or kids n kid) (sym has.counted) at in
     record {

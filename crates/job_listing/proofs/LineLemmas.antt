@@ -1,7 +1,8 @@
 -- The lines of rows, one more at a time.
-use Rattle.std.proofs.Common.{◌≡◌, ℕ, ◌+◌, ◌<◌, List, [], ◌∷◌, ◌++◌, length, take, get_or, sym, ap, subst, ◌∙◌, append-nil, append_assoc}
-use Rattle.std.specs.List.{AllZip, concat}
+use Rattle.std.proofs.Common.{◌≡◌, ℕ, ◌+◌, ◌<◌, List, [], ◌∷◌, ◌++◌, length, take, get_or, sym, ap, subst, ◌∙◌}
+use Rattle.std.specs.List.{AllZip}
 use Rattle.std.proofs.lemmas.List.{take_more}
+use Rattle.host_calls.proofs.CommonLemmas.{concat_push}
 use Rattle.civil_minute.specs.declared.zone.Zone.{Zone}
 use Rattle.listing_text.specs.Listing.{ShowsRow}
 use Rattle.spool_model.specs.declared.row.Row.{Row}
@@ -13,11 +14,6 @@ zip_push R [] [] x y zip is = (is, tt)
 zip_push R [] (other ∷ ys) x y zip is = absurd zip
 zip_push R (other ∷ xs) [] x y zip is = absurd zip
 zip_push R (one ∷ xs) (other ∷ ys) x y zip is = (zip.0, zip_push R xs ys x y zip.1 is)
-
-pub concat_push : (lines : List (List ℕ)) (line : List ℕ) → concat (lines ++ line ∷ []) ≡ concat lines ++ line
-concat_push [] line = append-nil line
-concat_push (first ∷ lines) line = ap (λ (rest : List ℕ). first ++ rest) (concat_push lines line)
-    ∙ sym (append_assoc first (concat lines) line)
 
 -- one more row has one more line
 pub one_more : (zone : Zone) (rows : List Row) (index : ℕ) (or : Row) (text line more : List ℕ) → index < length rows

@@ -1,7 +1,6 @@
 -- Rows of different numbers, in order by minute, then number.
-use Rattle.std.proofs.Common.{◌≡◌, ◌≢◌, ◌<◌, ◌==◌, ℕ, nat_eq, Bool, false, List, [], ◌∷◌, length, map, filter, All, AllPairs, IsPermutation, inl, inr, sym, subst, ◌∙◌, refl, arith}
+use Rattle.std.proofs.Common.{◌≡◌, ◌≢◌, ◌<◌, ℕ, nat_eq, Bool, false, List, [], ◌∷◌, length, map, filter, All, AllPairs, IsPermutation, inl, inr, sym, subst, ◌∙◌, refl, arith}
 use Rattle.std.specs.Prelude.{T}
-use Rattle.std.specs.Bool.{Decides}
 use Rattle.std.specs.Cmp.{IsStrictWeakOrder, ranked, ranks}
 use Rattle.std.specs.FinMap.Entries.{below_all, is_sorted}
 use Rattle.std.specs.List.{slice_index_or}
@@ -9,7 +8,7 @@ use Rattle.std.specs.List.Sorted.{IsSortedBy}
 use Rattle.std.specs.Ordering.{MatchOrdering, is_lt, nat_cmp, ordering_then}
 use Rattle.std.specs.declared.cmp.Ordering.{Ordering}
 use Rattle.std.specs.declared.cmp.Ordering.TheVariants.{Less, Equal, Greater}
-use Rattle.std.proofs.lemmas.Bool.Decides.{Decides-eqb, nat_tests}
+use Rattle.std.proofs.lemmas.Bool.Decides.{Decides-eqb}
 use Rattle.std.proofs.lemmas.Cmp.{nat_cmp_total, on_total, then_total}
 use Rattle.std.proofs.lemmas.List.{get_or-map, length-map}
 use Rattle.std.proofs.lemmas.List.Elements.{All-cons, All-nil}
@@ -17,10 +16,11 @@ use Rattle.std.proofs.lemmas.List.Kept.{AllPairs-cons, AllPairs-filter}
 use Rattle.std.proofs.lemmas.List.Sorted.{IsPermutation-map, ranks_by, sorted_far}
 use Rattle.std.proofs.lemmas.Map.Keys.{IsDistinct-IsPermutation}
 use Rattle.std.proofs.lemmas.Map.Made.{AllPairs-from_IsDistinct, IsDistinct-from_AllPairs}
+use Rattle.host_calls.proofs.CommonLemmas.{first_of_both, second_of_both, flips}
 use Rattle.listing_text.specs.Listing.{IsListedBefore}
 use Rattle.queue_rules.specs.Order.{Differ, row_numbers}
 use Rattle.spool_model.specs.declared.row.Row.{Row}
-use Rattle.spool_shows.proofs.EntryLists.{below, left, right}
+use Rattle.spool_shows.proofs.EntryLists.{below}
 use Rattle.spool_store.specs.Rows.{row_entry}
 
 -- the rows have different numbers
@@ -32,15 +32,16 @@ each_apart row [] under = All-nil (AreApart row)
 each_apart row (next ∷ later) under =
     let less : row.number < next.number = ranked row.number next.number Less
     (sym (below nat_cmp row.number (map row_entry (next ∷ later)) (row_entry next) under (inl refl))) in
-    All-cons (AreApart row) next later (λ same. omega (arith, less, same)) (each_apart row later (right _ _ under))
+    All-cons (AreApart row) next later (λ same. omega (arith, less, same)) (each_apart row later (second_of_both _ _ under))
 
 -- rows in the order of their numbers have different ones
 rows_apart : (rows : List Row) → T (is_sorted nat_cmp (map row_entry rows)) → AllPairs AreApart rows
 rows_apart [] rise = λ i j d before within. absurd (omega arith)
 rows_apart (row ∷ later) rise =
     AllPairs-cons AreApart row later
-    (each_apart row later (left (below_all nat_cmp row.number (map row_entry later)) (is_sorted nat_cmp (map row_entry later)) rise))
-    (rows_apart later (right (below_all nat_cmp row.number (map row_entry later)) (is_sorted nat_cmp (map row_entry later)) rise))
+    (each_apart row later
+    (first_of_both (below_all nat_cmp row.number (map row_entry later)) (is_sorted nat_cmp (map row_entry later)) rise))
+    (rows_apart later (second_of_both (below_all nat_cmp row.number (map row_entry later)) (is_sorted nat_cmp (map row_entry later)) rise))
 
 apart_differ : (rows : List Row) → AllPairs AreApart rows → Differ (row_numbers rows)
 apart_differ [] apart i j d before within = absurd (omega arith)
@@ -66,19 +67,13 @@ kept_differ rows seen test rise is =
     subst (λ (kept : List Row). Differ (row_numbers kept)) (sym is)
     (apart_differ (filter test rows) (AllPairs-filter AreApart test rows (rows_apart rows rise)))
 
-same_number : (a b : ℕ) → Decides (a == b) (a ≡ b)
-same_number a b = Decides-eqb a b
-
-flips : (a b : ℕ) → (a == b) ≡ (b == a)
-flips a b = grind (arith, nat_tests)
-
 -- in another order they do too
 moved_apart : (rows moved : List Row) → IsPermutation rows moved → Differ (row_numbers rows) → AllPairs AreApart moved
 moved_apart rows moved same differ =
-    differ_apart moved (AllPairs-from_IsDistinct same_number (row_numbers moved)
+    differ_apart moved (AllPairs-from_IsDistinct Decides-eqb (row_numbers moved)
     (IsDistinct-IsPermutation nat_eq flips (row_numbers rows) (row_numbers moved)
     (IsPermutation-map (λ (row : Row). row.number) rows moved same)
-    (IsDistinct-from_AllPairs same_number (row_numbers rows) differ)))
+    (IsDistinct-from_AllPairs Decides-eqb (row_numbers rows) differ)))
 
 -- how two rows compare: by minute, then number
 abbrev pub row_cmp : Row → Row → Ordering

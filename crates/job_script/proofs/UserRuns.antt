@@ -1,5 +1,6 @@
 -- Where a user's name ends in a text.
-use Rattle.std.proofs.Common.{◌≡◌, ℕ, ◌<◌, ◌≤◌, ◌⊎◌, inl, inr, List, [], ◌∷◌, ◌++◌, length, get_or, IsTrue, refl, ap, arith}
+use Rattle.std.proofs.Common.{◌≡◌, ℕ, ◌<◌, ◌≤◌, ◌⊎◌, inl, inr, List, [], ◌∷◌, ◌++◌, length, get_or, IsTrue, ap, arith}
+use Rattle.host_calls.proofs.CommonLemmas.{same_prefix}
 use Rattle.job_script.proofs.RunLemmas.{Ends, both_hold, pass_by_place, same_run}
 use Rattle.spool_model.specs.Users.{IsUserName, is_user_byte, are_user_bytes}
 
@@ -28,17 +29,6 @@ no_longer (a ∷ u) (b ∷ v) x y us ys same =
     let rest : u ++ x ≡ v ++ y = cc same in
     let below : length u ≤ length v = no_longer u v x y (both_hold (is_user_byte a) (are_user_bytes u) us).1 ys rest in
     omega arith
-
--- prefixes of one length of one text are one
-pub same_prefix : (u v x y : List ℕ) → length u ≡ length v → u ++ x ≡ v ++ y → (u ≡ v) × (x ≡ y)
-same_prefix [] [] x y long same = (refl, same)
-same_prefix [] (b ∷ v) x y long same = absurd (omega arith)
-same_prefix (a ∷ u) [] x y long same = absurd (omega arith)
-same_prefix (a ∷ u) (b ∷ v) x y long same =
-    let head : a ≡ b = cc same in
-    let rest : u ++ x ≡ v ++ y = cc same in
-    let tails : (u ≡ v) × (x ≡ y) = same_prefix u v x y (omega arith) rest in
-    (cc (head, tails.0), tails.1)
 
 -- the run ends before a byte that can't go on, or has as many bytes as a name may have
 abbrev pub IsMost : List ℕ → List ℕ → Type 0

@@ -1,13 +1,13 @@
 -- What notes say of a job, with one more note.
-use Rattle.std.proofs.Common.{◌≡◌, ◌∙◌, ℕ, Bool, true, false, List, [], ◌∷◌, ◌++◌, Option, Some, None, cond, refl, sym, ap, subst, arith}
+use Rattle.std.proofs.Common.{◌≡◌, ◌∙◌, ℕ, Bool, true, false, List, [], ◌∷◌, ◌++◌, Option, Some, None, cond, refl, sym, ap, subst}
 use Rattle.std.specs.Prelude.{◌==◌, not}
 use Rattle.std.specs.BTreeMap as tree
 use Rattle.std.specs.BTreeMap.{BTreeMap, is_at}
 use Rattle.std.specs.Ordering.{nat_cmp}
-use Rattle.std.proofs.lemmas.Bool.{and_parts}
-use Rattle.std.proofs.lemmas.Bool.Decides.{nat_tests}
+use Rattle.std.proofs.lemmas.Bool.{and_parts, not-true}
 use Rattle.std.proofs.lemmas.List.Elements.{Contains-append_left, Contains-push}
 use Rattle.std.proofs.Math.Bool.{or-false, or-true}
+use Rattle.host_calls.proofs.CommonLemmas.{same_number}
 use Rattle.record_lines.proofs.SayingLemmas as saying
 use Rattle.record_lines.proofs.SayingLemmas.{any_else, any_here, any_more, none_says, saying_names}
 use Rattle.mail_notes.specs.Book.{AreNoticeStates, IsNoticeStateAt, note_may_follow, notice_state_after}
@@ -46,13 +46,6 @@ holds_else notes number (Some Closed) next apart holds = record {
   closed = any_else (is_note_of number) is_closing_note notes next apart ∙ holds.closed;
 }
 
-same_number : (number : ℕ) → (number == number) ≡ true
-same_number number = grind (arith, nat_tests)
-
-not_true : (test : Bool) → not test ≡ true → test ≡ false
-not_true true is = absurd cc
-not_true false is = refl
-
 -- the note of a notice that was sent or dropped
 closed_here : (notes : List Note) (number : ℕ) (next : Note) → is_note_of number next ≡ true → is_closing_note next ≡ true
     → is_noted number notes ≡ true
@@ -66,7 +59,7 @@ closed_here notes number next here closing noted = record {
 holds_here : (notes : List Note) (next : Note) → is_note_allowed notes next ≡ true
     → IsNoticeStateAt (notes ++ next ∷ []) (number_of_note next) (Some (notice_state_after next))
 holds_here notes (Noted job) may =
-    let none : has_note_of job.number notes ≡ false = not_true (has_note_of job.number notes) may in
+    let none : has_note_of job.number notes ≡ false = not-true (has_note_of job.number notes) may in
     record {
       number_is = refl;
       noted = Contains-push notes (Noted job);

@@ -4,7 +4,7 @@ use Rattle.std.specs.Prelude.{◌==◌, IsSome, Option, None, Some, codes}
 use Rattle.std.specs.Str.{bytes_eq}
 use Rattle.std.specs.Char.{is_ascii_alphanumeric}
 use Rattle.std.specs.List.{list_all}
-use Rattle.std.proofs.lemmas.Bool.{and_parts}
+use Rattle.std.proofs.lemmas.Bool.{and_parts, false≢true}
 use Rattle.std.proofs.lemmas.Bool.Decides.{nat_tests}
 use Rattle.std.proofs.lemmas.Slice.Eq.{bytes_eq-Decides}
 use Rattle.text_reader.specs.HexDigits.{SpellsNumber, digits_of}
@@ -19,9 +19,6 @@ use Rattle.mail_notes.specs.Laws.{MailIsNoneOfTheStores, NoticeNumbersAreRead}
 use Rattle.mail_notes.specs.Lines.{Fits}
 use Rattle.mail_notes.specs.Names.{mail_file, mail_temp, notice_file, notice_number}
 
-pub never : false ≡ true → ⊥
-never is = cc
-
 -- a longer name than those of the store's own files, which is no job's, is none of the store's
 not_spool : (own name : List ℕ) → name ≡ own → 5 ≤ length own → (IsSome (job_named own) → ⊥) → IsSpoolName name → ⊥
 not_spool own name is long none (inl spool) = let counted : length own ≡ 4 = ap length (sym is ∙ spool) in omega arith
@@ -30,9 +27,9 @@ not_spool own name is long none (inr (inr (inl spool))) = let counted : length o
 not_spool own name is long none (inr (inr (inr job))) = none (subst (λ n. IsSome (job_named n)) is job)
 
 pub mail_is_none_of_the_stores : MailIsNoneOfTheStores
-mail_is_none_of_the_stores name (inl is) spool = not_spool mail_file name is (omega arith) never spool
-mail_is_none_of_the_stores name (inr (inl is)) spool = not_spool mail_temp name is (omega arith) never spool
-mail_is_none_of_the_stores name (inr (inr (number, is))) spool = not_spool (notice_file number) name is (omega arith) never spool
+mail_is_none_of_the_stores name (inl is) spool = not_spool mail_file name is (omega arith) false≢true spool
+mail_is_none_of_the_stores name (inr (inl is)) spool = not_spool mail_temp name is (omega arith) false≢true spool
+mail_is_none_of_the_stores name (inr (inr (number, is))) spool = not_spool (notice_file number) name is (omega arith) false≢true spool
 
 -- letters and digits may be in a name
 alphanumeric_name : (bytes : List ℕ) → list_all is_ascii_alphanumeric bytes ≡ true → list_all is_name_byte bytes ≡ true

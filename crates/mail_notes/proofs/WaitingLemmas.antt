@@ -10,12 +10,12 @@ use Rattle.std.specs.List.Sorted.{IsStrictlySortedBy}
 use Rattle.std.specs.Map.{keys_of, values_of}
 use Rattle.std.specs.Ordering.{nat_cmp}
 use Rattle.std.proofs.lemmas.Bool.{and_parts, eqb-true}
-use Rattle.std.proofs.lemmas.Bool.Decides.{nat_tests}
 use Rattle.std.proofs.lemmas.List.Elements.{All-cons, All-contains, All-nil, Contains-append_left, Contains-append_right}
 use Rattle.std.proofs.lemmas.List.Kept.{AllPairs-cons}
 use Rattle.std.proofs.lemmas.Map.Entries.{btree_map_get_place, place_from_lookup}
 use Rattle.std.proofs.lemmas.Map.Keys.{sorted_head, sorted_tail}
-use Rattle.record_lines.proofs.SayingLemmas.{at_number, none_says}
+use Rattle.host_calls.proofs.CommonLemmas.{key_tested, less_than}
+use Rattle.record_lines.proofs.SayingLemmas.{none_says}
 use Rattle.mail_notes.specs.Book.{AreAwaitingNotice, IsWaiting, AreNoticeStates, IsNoticeStateAt, waiting_job}
 use Rattle.mail_notes.specs.declared.notice_states.NoticeState.{NoticeState}
 use Rattle.mail_notes.specs.declared.notice_states.NoticeState.TheVariants.{Closed, Waits}
@@ -74,16 +74,13 @@ has_number notes ((other, Waits one) ∷ later) (suc place) key job stand is =
     (has_number notes later place key job stand.1 is)
 has_number notes ((other, Closed) ∷ later) (suc place) key job stand is = has_number notes later place key job stand.1 is
 
-less_of : (one other : ℕ) → nat_cmp one other ≡ Less → one < other
-less_of one other is = grind (arith, nat_tests)
-
 above : (notes : List Note) (key : ℕ) (entries : List (ℕ × NoticeState)) → StandAll notes entries
     → AllByRecursion (λ other. nat_cmp key other ≡ Less) (keys_of entries)
     → All (λ job. key < job.number) (jobs_of entries)
 above notes key [] stand less = All-nil (λ job. key < job.number)
 above notes key ((other, Waits job) ∷ later) stand less =
     All-cons (λ one. key < one.number) job (jobs_of later)
-    (subst (λ number. key < number) (sym stand.0.number_is) (less_of key other less.0)) (above notes key later stand.1 less.1)
+    (subst (λ number. key < number) (sym stand.0.number_is) (less_than key other less.0)) (above notes key later stand.1 less.1)
 above notes key ((other, Closed) ∷ later) stand less = above notes key later stand.1 less.1
 
 rise : (notes : List Note) (entries : List (ℕ × NoticeState)) → StandAll notes entries → IsStrictlySortedBy nat_cmp (keys_of entries)
@@ -116,7 +113,7 @@ module _ (notes : List Note) (states : BTreeMap ℕ NoticeState) (ordered : tree
       let but : not (has_closing_note number notes) ≡ false = ap not says in cc)
   all_there number waiting (Some (Waits job)) is =
       let found = place_from_lookup (is_at (nat_cmp number)) states.entries (Waits job) is in
-      let key_is : number ≡ found.1 = eqb-true number found.1 (sym (at_number number found.1) ∙ found.3) in
+      let key_is : number ≡ found.1 = eqb-true number found.1 (sym (key_tested number found.1) ∙ found.3) in
       subst (Contains (map (λ one. one.number) (jobs_of states.entries))) (sym key_is)
       (has_number notes states.entries found.0 found.1 job stand_all found.2)
 

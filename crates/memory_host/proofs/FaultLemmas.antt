@@ -1,7 +1,7 @@
 -- The counts of faults, call after call.
 use Rattle.std.proofs.Common.{◌≡◌, ◌⊎◌, ◌+◌, ◌<◌, ◌≤◌, ◌==◌, ◌||◌, ◌&&◌, ℕ, Bool, true, false, List, [], ◌∷◌, ◌++◌, length, cond, min, sym, ap, subst, ◌∙◌, refl, inl, inr, arith}
 use Rattle.std.specs.Prelude.{Option, Some, None, Result, Ok, Err, is_some, nat_lt, not, option_to_list, if◌then◌else◌}
-use Rattle.std.proofs.lemmas.Bool.{eqb-true, ltb-true, ltb-false, lt-ltb}
+use Rattle.std.proofs.lemmas.Bool.{eqb-true, ltb-true, ltb-false, lt-ltb, or_cases}
 use Rattle.std.proofs.lemmas.List.{length-map}
 use Rattle.host_calls.specs.Clock.{last_count}
 use Rattle.host_calls.specs.declared.child.Child.{Child}
@@ -104,11 +104,6 @@ none_added (first ∷ others) fuse empty = absurd (no_entry empty) where
 
 differs : {b : Bool} → b ≡ true → b ≡ false → ⊥
 differs holds not_so = cc
-
--- one of two holds
-either_holds : (a b : Bool) → (a || b) ≡ true → (a ≡ true) ⊎ (b ≡ true)
-either_holds true b holds = inl refl
-either_holds false b holds = inr holds
 
 -- both hold
 second_holds : (a b : Bool) → (a && b) ≡ true → b ≡ true
@@ -248,7 +243,7 @@ module _ (at : Progress) (fuses : List ℕ) (file_faults start_faults taken : �
     lock_planned = faults_started.lock_planned;
   } where
     cause : (is_some (next_part at) ≡ true) ⊎ (is_planned at.starts at.plan.failing_starts ≡ true)
-    cause = either_holds (is_some (next_part at)) (is_planned at.starts at.plan.failing_starts) fails
+    cause = or_cases (is_some (next_part at)) (is_planned at.starts at.plan.failing_starts) fails
 
     unplanned : IsFaultless at.plan → fuses ≡ [] → ⊥
     unplanned quiet later = elim cause [

@@ -1,10 +1,10 @@
 -- What inputs in memory keep to: the content that they were made with.
 use Rattle.std.proofs.Common.{◌≡◌, ◌++◌, ℕ, List, length, refl, arith, ap, ◌∙◌}
 use Rattle.std.specs.Prelude.{Bool, true, false, Option, Some, None, is_some}
+use Rattle.host_calls.proofs.CommonLemmas.{same_prefix}
 use Rattle.memory_host.specs.Inputs.{KeepToContent, given_contents, inputs_spelling, spelled_choice, spelled_file}
 use Rattle.memory_host.specs.MemoryInputs.{contents_given, sources_so_far}
 use Rattle.memory_host.specs.declared.inputs.MemoryInputs.{MemoryInputs}
-use Rattle.memory_host.proofs.SpellingLemmas.{prefix_one}
 
 -- no two choices are spelled alike
 spelled_choice-one : (first second : Bool) → spelled_choice first ≡ spelled_choice second → first ≡ second
@@ -27,7 +27,7 @@ inputs_spelling-one standard other file other_file fails other_fails same =
     let choices : spelled_choice fails ≡ spelled_choice other_fails = cc in
     let counted : length standard ≡ length other = cc in
     let rests : standard ++ spelled_file file ≡ other ++ spelled_file other_file = cc in
-    let both = prefix_one standard other (spelled_file file) (spelled_file other_file) counted rests in
+    let both = same_prefix standard other (spelled_file file) (spelled_file other_file) counted rests in
     (both.0, spelled_file-one file other_file both.1, spelled_choice-one fails other_fails choices)
 
 -- inputs in memory have the content that they were made with

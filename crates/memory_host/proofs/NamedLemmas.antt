@@ -8,6 +8,7 @@ use Rattle.std.specs.Cmp.Lexicographic.{nat_list_cmp_total}
 use Rattle.std.proofs.lemmas.List.Folds.{list_any-append}
 use Rattle.std.specs.FinMap as finite
 use Rattle.std.specs.FinMap.{get-insert, get-remove}
+use Rattle.std.proofs.lemmas.Bool.{or_parts}
 use Rattle.host_calls.specs.Directory.{Change, Made, Renamed, Removed, Names, name_cmp, changed_names, moved, names_after}
 use Rattle.memory_host.specs.Crash.{is_picked, picked_names}
 use Rattle.memory_host.specs.inside.Table.{Holders, HoldsSameDurable, HoldsSameNow, KeepsPlaces, are_touching, durable_in, changed_at, has_place, meant, moved_at, now_in, pending_of, picked_holders, put_at, touches, where_touched}
@@ -53,20 +54,16 @@ abbrev AreUntouched : List Change → List ℕ → Type 0
 AreUntouched [] name = Unit {0}
 AreUntouched (change ∷ older) name = IsUntouched change name × AreUntouched older name
 
-or-false : (a b : Bool) → (a || b) ≡ false → (a ≡ false) × (b ≡ false)
-or-false true b off = cc
-or-false false b off = (refl, off)
-
 untouched_one : (change : KeptChange) (name : List ℕ) → touches change name ≡ false → IsUntouched (meant change) name
 untouched_one (kept.Made made body) name off = off
-untouched_one (kept.Renamed from to) name off = or-false (eq_by_cmp name_cmp from name) (eq_by_cmp name_cmp to name) off
+untouched_one (kept.Renamed from to) name off = or_parts (eq_by_cmp name_cmp from name) (eq_by_cmp name_cmp to name) off
 untouched_one (kept.Removed removed) name off = off
 
 untouched_onto : (changes before : List KeptChange) (name : List ℕ) → are_touching changes name ≡ false
     → AreUntouched (map meant before) name → AreUntouched (map meant (reverse_aux changes before)) name
 untouched_onto [] before name off others = others
 untouched_onto (change ∷ later) before name off others =
-    let both = or-false (touches change name) (are_touching later name) off in
+    let both = or_parts (touches change name) (are_touching later name) off in
     untouched_onto later (change ∷ before) name both.1 (untouched_one change name both.0, others)
 
 untouched : (changes : List KeptChange) (name : List ℕ) → are_touching changes name ≡ false → AreUntouched (pending_of changes) name

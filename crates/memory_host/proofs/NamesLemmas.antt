@@ -15,6 +15,7 @@ use Rattle.std.specs.FinMap.Entries.{below_all, where_key, is_sorted-where_key}
 use Rattle.std.proofs.Math.Dec.{T}
 use Rattle.host_calls.specs.Directory.{Directory, name_cmp, names_of, reading_of}
 use Rattle.host_calls.proofs.DirectoryLemmas.{get-files_of}
+use Rattle.host_calls.proofs.CommonLemmas.{both_hold}
 use Rattle.memory_host.specs.declared.held.Held.{Held}
 use Rattle.memory_host.specs.inside.Table.{HeldNames, now_in, now_names, now_part}
 use Rattle.memory_host.proofs.TableLemmas.{same_name}
@@ -82,22 +83,18 @@ same_keys first second sorted_first sorted_second same =
 
 -- The entries of a table.
 
-both : (a b : Bool) → T a → T b → T (a && b)
-both true b p q = q
-both false b p q = p
-
 module _ {X : Type 0} where
   below_from : (name : List ℕ) (list : List (List ℕ × X))
       → AllByRecursion (λ other. name_cmp name other ≡ Less) (map (λ entry. entry.0) list) → T (below_all name_cmp name list)
   below_from name [] all = tt
-  below_from name (entry ∷ others) all = both (is_lt (name_cmp name entry.0)) (below_all name_cmp name others)
+  below_from name (entry ∷ others) all = both_hold (is_lt (name_cmp name entry.0)) (below_all name_cmp name others)
       (subst (λ o. T (is_lt o)) (sym all.0) tt) (below_from name others all.1)
 
   pub sorted_from : (list : List (List ℕ × X)) → IsStrictlySortedBy name_cmp (map (λ entry. entry.0) list) → T (is_sorted name_cmp list)
   unfolding IsStrictlySortedBy
   sorted_from [] all = tt
   sorted_from (entry ∷ others) all =
-      both (below_all name_cmp entry.0 others) (is_sorted name_cmp others) (below_from entry.0 others all.0) (sorted_from others all.1)
+      both_hold (below_all name_cmp entry.0 others) (is_sorted name_cmp others) (below_from entry.0 others all.0) (sorted_from others all.1)
 
   pub find-lookup : (name : List ℕ) (list : List (List ℕ × X)) → find name_cmp name list ≡ lookup (is_at (name_cmp name)) list
   find-lookup name [] = refl

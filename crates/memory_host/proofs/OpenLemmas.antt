@@ -21,6 +21,7 @@ use Rattle.memory_host.specs.inside.Story.{Opens, state_of}
 use Rattle.memory_host.specs.inside.Table.{are_touching, durable_part, now_part, pending_of}
 use Rattle.memory_host.specs.inside.Bodies.{body_of, kept_at}
 use Rattle.host_calls.specs.World.{World}
+use Rattle.host_calls.proofs.CommonLemmas.{first_of_both, second_of_both}
 use Rattle.memory_host.specs.Host.{IsNew, memory_world}
 use Rattle.memory_host.specs.declared.memory_host.MemoryHost.{MemoryHost}
 use Rattle.memory_host.specs.declared.plan.Plan.{Plan}
@@ -83,14 +84,6 @@ reading_made name bytes at is other =
 abbrev or_else : {X : Type 0} → Option X → Option X → Option X
 or_else None other = other
 or_else (Some x) other = Some x
-
-first_of_both : (a b : Bool) → T (a && b) → T a
-first_of_both true b is = tt
-first_of_both false b is = absurd is
-
-second_of_both : (a b : Bool) → T (a && b) → T b
-second_of_both true b is = is
-second_of_both false b is = absurd is
 
 -- a name below all is not found
 find_below : (name : List ℕ) (files : List (List ℕ × List ℕ)) → T (below_all name_cmp name files) → find name_cmp name files ≡ None

@@ -3,6 +3,7 @@ use Rattle.std.proofs.Common.{◌≡◌, ◌++◌, ℕ, List, [], ◌∷◌, len
 use Rattle.std.specs.Prelude.{Option, Some, None}
 use Rattle.host_calls.specs.declared.child.Ending.{Ending}
 use Rattle.host_calls.specs.declared.child.Ending.TheVariants.{Exit, Signal, NotStarted}
+use Rattle.host_calls.proofs.CommonLemmas.{same_prefix}
 use Rattle.memory_host.specs.Spelling.{counted, spelled, spelled_children, spelled_ending, spelled_failing, spelled_fuse, spelled_part}
 use Rattle.memory_host.specs.declared.child_plans.ChildPlan.{ChildPlan}
 use Rattle.memory_host.specs.declared.failing_list.Failing.{Failing}
@@ -10,25 +11,12 @@ use Rattle.memory_host.specs.declared.failing_list.Part.{Part}
 use Rattle.memory_host.specs.declared.failing_list.Part.TheVariants.{Nothing, All}
 use Rattle.memory_host.specs.declared.plan.Plan.{Plan}
 
--- two lists of one length with what follows each
-pub prefix_one : (first second rest other : List ℕ) → length first ≡ length second → first ++ rest ≡ second ++ other
-    → (first ≡ second) × (rest ≡ other)
-prefix_one [] [] rest other as_long same = (refl, same)
-prefix_one [] (y ∷ ys) rest other as_long same = absurd (omega arith)
-prefix_one (x ∷ xs) [] rest other as_long same = absurd (omega arith)
-prefix_one (x ∷ xs) (y ∷ ys) rest other as_long same =
-    let heads : x ≡ y = cc in
-    let tails : xs ++ rest ≡ ys ++ other = cc in
-    let others = prefix_one xs ys rest other (omega arith) tails in
-    let others_same : xs ≡ ys = others.0 in
-    (cc, others.1)
-
 -- two counted lists with what follows each
 counted_one : (first second rest other : List ℕ) → counted first ++ rest ≡ counted second ++ other → (first ≡ second) × (rest ≡ other)
 counted_one first second rest other same =
     let as_long : length first ≡ length second = cc in
     let tails : first ++ rest ≡ second ++ other = cc in
-    prefix_one first second rest other as_long tails
+    same_prefix first second rest other as_long tails
 
 spelled_part-one : (first second : Part) → spelled_part first ≡ spelled_part second → first ≡ second
 spelled_part-one Nothing Nothing same = refl

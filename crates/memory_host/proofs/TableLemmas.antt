@@ -10,6 +10,7 @@ use Rattle.memory_host.specs.Crash.{is_picked}
 use Rattle.memory_host.specs.declared.held.Held.{Held}
 use Rattle.std.proofs.lemmas.List.Folds.{list_any_more, list_any_at}
 use Rattle.std.proofs.lemmas.List.{reverse-append, take_more, length-map, length-reverse, length-take-le}
+use Rattle.host_calls.proofs.CommonLemmas.{or_true}
 use Rattle.memory_host.specs.declared.pending.Change.{Change as KeptChange}
 use Rattle.memory_host.specs.inside.Table.{HasPlaces, HaveAllPlaces, are_touching, changed_at, moved_at, meant, pending_of, picked_holders, touches, where_touched, Holders, HeldNames, IsEntrySet, now_part, durable_part, now_in, durable_in, has_place, put_at, HoldsSameNow, HoldsSameDurable, KeepsPlaces}
 
@@ -92,12 +93,8 @@ not_some (Some x) none = cc
 pub touches_first : (first second : List ℕ) → (eq_by_cmp name_cmp first first || eq_by_cmp name_cmp second first) ≡ true
 touches_first first second = rw (same_name-refl first) refl
 
-or-true : (b : Bool) → (b || true) ≡ true
-or-true true = refl
-or-true false = refl
-
 pub touches_second : (first second : List ℕ) → (eq_by_cmp name_cmp first second || eq_by_cmp name_cmp second second) ≡ true
-touches_second first second = rw (same_name-refl second) (or-true (eq_by_cmp name_cmp first second))
+touches_second first second = rw (same_name-refl second) (or_true (eq_by_cmp name_cmp first second))
 
 -- two names that are kept
 pub kept_either : (held : HeldNames) (first second : List ℕ) → has_place held first ≡ true → has_place held second ≡ true → (name : List ℕ)

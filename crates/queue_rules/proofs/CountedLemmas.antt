@@ -2,9 +2,9 @@
 use Rattle.std.proofs.Common.{◌≡◌, ◌<◌, ◌+◌, ◌==◌, ◌&&◌, ◌++◌, ℕ, Bool, true, false, cond, List, [], ◌∷◌, IsPermutation, filter, refl, sym, ap, subst, ◌∙◌, arith}
 use Rattle.std.specs.Prelude.{sum_by}
 use Rattle.std.proofs.lemmas.Bool.{and_parts, eqb-true}
-use Rattle.std.proofs.lemmas.Bool.Decides.{nat_tests}
 use Rattle.std.proofs.lemmas.List.Sorted.{IsPermutation-cons, IsPermutation-middle, IsPermutation-refl, IsPermutation-sym, IsPermutation-trans, sum_by-IsPermutation}
 use Rattle.std.proofs.lemmas.List.Sums.{sum_by-append, sum_by-cons}
+use Rattle.host_calls.proofs.CommonLemmas.{same_number}
 
 -- the two places are the same
 abbrev is_same : ℕ × ℕ → ℕ × ℕ → Bool
@@ -18,11 +18,8 @@ one_if place other = cond (is_same place other) 1 0
 abbrev count : ℕ × ℕ → List (ℕ × ℕ) → ℕ
 count place places = sum_by (one_if place) places
 
-same_nat : (n : ℕ) → (n == n) ≡ true
-same_nat n = grind (arith, nat_tests)
-
 itself : (place : ℕ × ℕ) → is_same place place ≡ true
-itself place = ap (λ (b : Bool). b && place.1 == place.1) (same_nat place.0) ∙ same_nat place.1
+itself place = ap (λ (b : Bool). b && place.1 == place.1) (same_number place.0) ∙ same_number place.1
 
 are_same : (one other : ℕ × ℕ) → is_same one other ≡ true → one ≡ other
 are_same one other is =

@@ -1,15 +1,15 @@
 -- Whose the numbers in due order are, and that they differ.
-use Rattle.std.proofs.Common.{◌≡◌, ◌≢◌, ◌<◌, ◌==◌, ℕ, ℤ, nat_eq, Bool, true, not, List, [], ◌∷◌, length, map, filter, All, AllPairs, Contains, inl, inr, arith, refl, sym, ap, subst, ◌∙◌}
+use Rattle.std.proofs.Common.{◌≡◌, ◌≢◌, ◌<◌, ℕ, ℤ, nat_eq, Bool, true, not, List, [], ◌∷◌, length, map, filter, All, AllPairs, Contains, inl, inr, arith, refl, sym, ap, subst, ◌∙◌}
 use Rattle.std.specs.List.{slice_index_or}
 use Rattle.std.proofs.lemmas.Bool.{and_parts, cases_lt}
-use Rattle.std.proofs.lemmas.Bool.Decides.{Decides-eqb, nat_tests}
-use Rattle.std.specs.Bool.{Decides}
+use Rattle.std.proofs.lemmas.Bool.Decides.{Decides-eqb}
 use Rattle.std.proofs.lemmas.List.{get_or-map, get_or_default, length-map}
 use Rattle.std.proofs.lemmas.List.Elements.{All-contains, All-contains_itself, All-filter, All-map, All-weaker, filter_passes}
 use Rattle.std.proofs.lemmas.List.Kept.{AllPairs-filter}
 use Rattle.std.proofs.lemmas.List.Sorted.{All-permutation, IsPermutation-map}
 use Rattle.std.proofs.lemmas.Map.Keys.{IsDistinct-IsPermutation}
 use Rattle.std.proofs.lemmas.Map.Made.{AllPairs-from_IsDistinct, IsDistinct-from_AllPairs}
+use Rattle.host_calls.proofs.CommonLemmas.{flips}
 use Rattle.spool_model.specs.JobTable.{is_batch_queue}
 use Rattle.spool_model.specs.declared.row.Row.{Row}
 use Rattle.queue_rules.specs.Order.{AreInDueOrder, Differ, IsFirstBatch, IsNumberOf, is_ready, is_ready_batch, is_ready_job, place_in_queue, places_of, row_numbers}
@@ -65,12 +65,6 @@ pairs_unmap R f xs pairs i j d before within =
 abbrev AreApart : Row → Row → Type 0
 AreApart first second = first.number ≢ second.number
 
-same_number : (a b : ℕ) → Decides (a == b) (a ≡ b)
-same_number a b = Decides-eqb a b
-
-flips : (a b : ℕ) → (a == b) ≡ (b == a)
-flips a b = grind (arith, nat_tests)
-
 -- where the rows' numbers differ, those in due order do
 pub due_numbers_differ : (rows : List Row) (now : ℤ) (numbers : List ℕ) → Differ (row_numbers rows)
     → AreInDueOrder rows now numbers → Differ numbers
@@ -82,10 +76,10 @@ due_numbers_differ rows now numbers differ due =
     pairs_map (λ first second. first ≢ second) (λ (place : ℕ × ℕ). place.1) (places_of test rows)
     (pairs_map (λ (first second : ℕ × ℕ). first.1 ≢ second.1) place_in_queue (filter test rows) apart) in
     subst Differ (sym due.numbered)
-    (AllPairs-from_IsDistinct same_number (map (λ place. place.1) due.places)
+    (AllPairs-from_IsDistinct Decides-eqb (map (λ place. place.1) due.places)
     (IsDistinct-IsPermutation nat_eq flips (map (λ place. place.1) (places_of test rows)) (map (λ place. place.1) due.places)
     (IsPermutation-map (λ (place : ℕ × ℕ). place.1) (places_of test rows) due.places due.same)
-    (IsDistinct-from_AllPairs same_number (map (λ place. place.1) (places_of test rows)) kept)))
+    (IsDistinct-from_AllPairs Decides-eqb (map (λ place. place.1) (places_of test rows)) kept)))
 
 -- a row is not one of a batch queue and another one too
 two_kinds : (now : ℤ) (row : Row) → is_ready_job now row ≡ true → is_ready_batch now row ≡ true → ⊥

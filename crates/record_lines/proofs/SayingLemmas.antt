@@ -1,5 +1,5 @@
 -- What lists of records say of a number, with one more record.
-use Rattle.std.proofs.Common.{◌≡◌, ◌∙◌, ℕ, Bool, true, false, List, [], ◌∷◌, ◌++◌, Option, Some, cond, refl, sym, ap, subst, arith}
+use Rattle.std.proofs.Common.{◌≡◌, ◌∙◌, ℕ, Bool, true, false, List, [], ◌∷◌, ◌++◌, Option, Some, cond, refl, sym, ap, subst}
 use Rattle.std.specs.Prelude.{◌||◌, ◌&&◌, ◌==◌}
 use Rattle.std.specs.BTreeMap as tree
 use Rattle.std.specs.BTreeMap.{BTreeMap, is_at}
@@ -7,8 +7,8 @@ use Rattle.std.specs.List.{list_any}
 use Rattle.std.specs.Ordering.{nat_cmp}
 use Rattle.std.proofs.Math.Bool.{or-false}
 use Rattle.std.proofs.lemmas.Bool.{eqb-true, or_parts}
-use Rattle.std.proofs.lemmas.Bool.Decides.{nat_tests}
 use Rattle.std.proofs.lemmas.List.Folds.{list_any-append}
+use Rattle.host_calls.proofs.CommonLemmas.{key_tested}
 
 -- one more record
 pub any_more : {R : Type 0} (test : R → Bool) (records : List R) (next : R)
@@ -41,16 +41,13 @@ saying_names names test records says = by_test (list_any names records) refl whe
   by_test true is = is
   by_test false is = let none = none_says names test records is in cc
 
-pub at_number : (number other : ℕ) → is_at (nat_cmp number) other ≡ (number == other)
-at_number number other = grind (arith, nat_tests)
-
 -- what holds of each number and its standing in a map holds once one number has another standing
 pub stand_more : {S : Type 0} (Holds : ℕ → Option S → Type 0) (old new : BTreeMap ℕ S) (number : ℕ) (standing : S)
     → ((other : ℕ) → tree.get nat_cmp new other ≡ cond (is_at (nat_cmp number) other) (Some standing) (tree.get nat_cmp old other))
     → Holds number (Some standing) → ((other : ℕ) → (number == other) ≡ false → Holds other (tree.get nat_cmp old other))
     → (other : ℕ) → Holds other (tree.get nat_cmp new other)
 stand_more Holds old new number standing updates here else other =
-    subst (Holds other) (sym (updates other ∙ ap (λ b. cond b (Some standing) (tree.get nat_cmp old other)) (at_number number other)))
+    subst (Holds other) (sym (updates other ∙ ap (λ b. cond b (Some standing) (tree.get nat_cmp old other)) (key_tested number other)))
     (held (number == other) refl)
   where
     held : (test : Bool) → (number == other) ≡ test → Holds other (cond test (Some standing) (tree.get nat_cmp old other))

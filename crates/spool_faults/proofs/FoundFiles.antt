@@ -11,6 +11,7 @@ use Rattle.std.proofs.lemmas.List.{append-nil, get_or-map, length-map, map-appen
 use Rattle.std.proofs.lemmas.List.Elements.{filter-append, filter_map-append}
 use Rattle.std.proofs.lemmas.List.Folds.{list_any-append}
 use Rattle.host_calls.specs.Directory.{Files}
+use Rattle.host_calls.proofs.CommonLemmas.{neither_less}
 use Rattle.job_name.specs.declared.job.JobName.{JobName}
 use Rattle.job_name.specs.JobName.{NamedJob, SpellsJobName, job_named}
 use Rattle.job_name.proofs.NamedJobs.{name_given, name_spelled}
@@ -29,9 +30,6 @@ use Rattle.spool_faults.specs.inside.FoundFiles.{AreDecidedNumbers, IsCountedNam
 
 is_less : (one other : ℕ) → nat_lt one other ≡ true → one < other
 is_less one other is = grind (arith, nat_tests)
-
-neither_less : (one other : ℕ) → nat_lt one other ≡ false → nat_lt other one ≡ false → one ≡ other
-neither_less one other is also = grind (arith, nat_tests)
 
 one_fault : (bytes : List ℕ) (place other : ℕ) → IsHeaderFault bytes place → IsHeaderFault bytes other → place ≡ other
 one_fault bytes place other one two = by_test (nat_lt place other) refl (nat_lt other place) refl where

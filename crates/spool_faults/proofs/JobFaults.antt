@@ -1,18 +1,18 @@
 -- The faults of files and of starts, one after the other.
 use Rattle.std.proofs.Common.{◌≡◌, ℕ, ℤ, suc, ◌+◌, ◌<◌, ◌≤◌, Bool, true, false, cond, not, arith, List, Option, Some, None, [], ◌∷◌, ◌++◌, length, get_or, map, take, drop, sym, ap, subst, ◌∙◌, refl, append_assoc, drop-cons}
 use Rattle.std.specs.Prelude.{◌||◌, ◌==◌, Result, is_some, option_to_list}
-use Rattle.std.specs.BTreeMap.{BTreeMap, Updates, get, is_at}
+use Rattle.std.specs.BTreeMap.{BTreeMap, Updates, get}
 use Rattle.std.specs.BTreeSet.{BTreeSet, contains}
 use Rattle.std.specs.FinMap as finite
 use Rattle.std.specs.FinMap.{entries, find, get-entries}
 use Rattle.std.specs.List.{cons_option, filter, list_any}
 use Rattle.std.specs.Ordering.{nat_cmp}
 use Rattle.std.proofs.lemmas.Bool.{eqb-true}
-use Rattle.std.proofs.lemmas.Bool.Decides.{nat_tests}
 use Rattle.std.proofs.lemmas.List.{append-nil, at_drop_all, map-append, take_all, take_more}
 use Rattle.std.proofs.lemmas.List.Elements.{filter_map-append}
 use Rattle.host_calls.specs.declared.damage.Damage.{Damage}
 use Rattle.host_calls.specs.Directory.{Files, name_cmp}
+use Rattle.host_calls.proofs.CommonLemmas.{key_tested}
 use Rattle.job_script.specs.HeaderIn.{header_in}
 use Rattle.sequence_file.specs.LastNumber.{last_in}
 use Rattle.sequence_file.specs.Sequence.{sequence_file}
@@ -103,9 +103,6 @@ files_end bound place files faults all numbers past so =
     ∙ ap (λ list. faults ++ list) (sym (at_drop_all (λ list. files_faults bound numbers (files_found list)) files place past)) ∙ so
 
 -- Queues.
-
-key_tested : (one other : ℕ) → is_at (nat_cmp one) other ≡ (one == other)
-key_tested one other = grind (arith, nat_tests)
 
 -- the first file of a number, with one more at the end
 of_more : (number : ℕ) (files : List JobFile) (one : JobFile) → queue_in (file_of number (files ++ one ∷ []))

@@ -1,5 +1,5 @@
 -- A directory that has what is saved of another has of files of jobs that count those that are saved.
-use Rattle.std.proofs.Common.{◌≡◌, ℕ, Bool, true, false, cond, ◌&&◌, List, [], ◌∷◌, map, sym, ap, subst, ◌∙◌, refl, inl, inr}
+use Rattle.std.proofs.Common.{◌≡◌, ℕ, Bool, true, false, cond, List, [], ◌∷◌, map, sym, ap, subst, ◌∙◌, refl, inl, inr}
 use Rattle.std.specs.Prelude.{◌==◌, Option, Some, None, T, if◌then◌else◌}
 use Rattle.std.specs.Cmp.Lexicographic.{nat_list_cmp_total}
 use Rattle.std.specs.FinMap as finite
@@ -11,6 +11,7 @@ use Rattle.std.specs.declared.cmp.Ordering.{Ordering}
 use Rattle.std.specs.declared.cmp.Ordering.TheVariants.{Less}
 use Rattle.std.proofs.lemmas.Map.Lookups.{exact_bytes}
 use Rattle.host_calls.specs.Directory.{Files, name_cmp}
+use Rattle.host_calls.proofs.CommonLemmas.{both_hold}
 use Rattle.job_name.specs.JobName.{NamedJob, job_named}
 use Rattle.spool_shows.specs.JobFiles.{JobFile, counts, counts_as, file_named, job_file, job_files}
 use Rattle.spool_shows.proofs.EntryLists.{key_has}
@@ -41,11 +42,6 @@ first_order before (file ∷ later) order = by_seen (list_any (λ number. number
         → AreInOrder name_of (if seen then first_files before later else file ∷ first_files (file.job.number ∷ before) later)
     by_seen true rest other = rest
     by_seen false rest other = (λ one has. order.0 one (first_has (file.job.number ∷ before) later one has), other)
-
--- files in order are sorted entries
-both_hold : (one other : Bool) → T one → T other → T (one && other)
-both_hold true other is also = also
-both_hold false other is also = absurd is
 
 less_holds : (order : Ordering) → order ≡ Less → T (is_lt order)
 less_holds order is = subst (λ (o : Ordering). T (is_lt o)) (sym is) tt

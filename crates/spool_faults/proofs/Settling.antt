@@ -1,21 +1,16 @@
 -- A directory that is settled.
 use Rattle.std.proofs.Common.{◌≡◌, ◌++◌, List, [], sym, ap, subst, ◌∙◌, inl, inr}
-use Rattle.std.specs.Prelude.{Result, Ok, Err}
+use Rattle.std.specs.Prelude.{Result}
 use Rattle.host_calls.specs.declared.damage.Damage.{Damage}
 use Rattle.host_calls.specs.declared.fault.HostFault.{HostFault}
 use Rattle.host_calls.specs.declared.fault.HostFault.TheVariants as host
-use Rattle.host_calls.specs.Directory.{Files, Directory, IsImage, IsSettled, IsSyncedInPart, reading_of}
+use Rattle.host_calls.specs.Directory.{IsImage, IsSettled, IsSyncedInPart}
 use Rattle.host_calls.specs.World.{FileCall, World, reading}
-use Rattle.host_calls.proofs.DirectoryLemmas.{reading_is_image, reading_of-settled, settled_image}
+use Rattle.host_calls.proofs.CommonLemmas.{settled_before, settling_reads}
 use Rattle.whole_file.proofs.OthersLemmas.{changes_none, changes_then}
 use Rattle.whole_file.specs.Others.{ChangesFiles}
 use Rattle.spool_faults.specs.Faults.{faults_of}
 use Rattle.spool_faults.specs.Listed.{LeavesDirectory}
-
--- it has no new image
-settled_before : (start new : Directory) (image : Files) → IsSettled start new → IsImage new image → IsImage start image
-settled_before start new image done is =
-    subst (IsImage start) (sym (settled_image start image (subst (λ directory. IsImage directory image) done is))) (reading_is_image start)
 
 settling : {T : Type 0} (old new : World) (result : Result T HostFault) → FileCall IsSettled IsSyncedInPart old new result
     → ChangesFiles (IsImage old.now.directory) old new
@@ -25,13 +20,6 @@ settling old new result call =
       | inl is ↦ is
       | inr done ↦ settled_before old.now.directory done.0 image done.1 done.2
     ])
-
--- and reads as before, whatever came of it
-settling_reads : {T : Type 0} (old new : World) (result : Result T HostFault) → FileCall IsSettled IsSyncedInPart old new result
-    → reading new ≡ reading old
-settling_reads old new (Ok value) call = ap reading_of call.outcome ∙ reading_of-settled old.now.directory
-settling_reads old new (Err host.Failed) call = elim call.outcome [ inl same ↦ ap reading_of same | inr part ↦ part.reading ]
-settling_reads old new (Err host.Memory) call = ap reading call.outcome
 
 pub settling_leaves : {T : Type 0} (old new : World) (result : Result T HostFault) → FileCall IsSettled IsSyncedInPart old new result
     → LeavesDirectory old new

@@ -1,8 +1,7 @@
 -- What a session comes to, by its work.
-use Rattle.std.proofs.Common.{◌≡◌, ◌≤◌, ℕ, ◌∙◌, ap, refl, subst, arith}
+use Rattle.std.proofs.Common.{◌≡◌, ℕ, ◌∙◌, ap, refl, subst, arith}
 use Rattle.std.proofs.lemmas.Bool.Decides.{nat_tests}
 use Rattle.std.specs.Prelude.{true, nat_lt, Result, Ok, Err, IfErr, IsErrOf}
-use Rattle.host_calls.specs.Causes.{Rose}
 use Rattle.host_calls.specs.declared.fault.EnterFault.{EnterFault}
 use Rattle.host_calls.specs.declared.fault.EnterFault.TheVariants.{Failed, Memory as NoMemory, Taken}
 use Rattle.host_calls.specs.declared.host.Host.{Ghosts}
@@ -15,11 +14,8 @@ use Rattle.tool_output.specs.declared.command_error.CommandError.{CommandError}
 use Rattle.command_rules.specs.Checks.{check_of, place_of_check}
 use Rattle.command_rules.specs.Ends.{StopsBeforeLock}
 use Rattle.host_calls.proofs.WorldLemmas.{goes_on_then}
+use Rattle.host_calls.proofs.CommonLemmas.{rose_within}
 use Rattle.spool_session.specs.Sessions.{ComesOfSession, HasRisenIn, IsOfSession, IsWork, StaysQuiet, WorksInside}
-
--- a count that rose on the way has risen in all
-rose_within : (first old new last : ℕ) → first ≤ old → new ≤ last → Rose old new → Rose first last
-rose_within first old new last before after rose = omega arith
 
 -- the cause of an answer, where it is that of a fault of a file
 failed : {T : Type 0} (result : Result T CommandError) → cause_in result ≡ FileFault → IsErrOf result (error_of FileFault)

@@ -4,6 +4,7 @@ use Rattle.std.specs.Prelude.{◌||◌, Contains, MatchBool, Ok}
 use Rattle.std.specs.FinMap as map
 use Rattle.std.specs.List.{All}
 use Rattle.std.proofs.lemmas.List.Elements.{All-cons, All-contains, All-nil}
+use Rattle.std.proofs.lemmas.Bool.{or_parts}
 use Rattle.host_calls.specs.Directory.{Files}
 use Rattle.sequence_file.specs.Sequence.{sequence_file}
 use Rattle.spool_model.specs.JobTable.{JobEntry, JobTable, entry_at}
@@ -18,7 +19,7 @@ use Rattle.spool_shows.specs.JobFiles.{JobFile}
 use Rattle.spool_shows.specs.Laws.{HasCompacted, HasNoForgotten}
 use Rattle.sequence_file.proofs.LastNumbers.{last_spelled}
 use Rattle.spool_shows.proofs.ByNameReads.{last_read, read_gives_journal}
-use Rattle.spool_shows.proofs.MarkTests.{neither, tell_same}
+use Rattle.spool_shows.proofs.MarkTests.{tell_same}
 use Rattle.start_journal.proofs.MarkLemmas.{forgotten_was_decided}
 use Rattle.spool_shows.proofs.OneMark.{had_same, last_moves, marks_legal}
 use Rattle.spool_shows.proofs.ShownEntries.{SameJobs, entry_left, file_moves, passes_same, same_back, same_jobs, shows_live}
@@ -36,7 +37,7 @@ undecided : (number : ℕ) (marks : List Mark) → has_mark_of number marks ≡ 
 undecided number [] unnamed = refl
 undecided number (mark ∷ later) unnamed =
     let parts : (is_mark_of number mark ≡ false) × (has_mark_of number later ≡ false) =
-    neither (is_mark_of number mark) (has_mark_of number later) unnamed in
+    or_parts (is_mark_of number mark) (has_mark_of number later) unnamed in
     ap (λ b. b || is_decided number later) (silent_undecided number mark parts.0) ∙ undecided number later parts.1
 
 -- the mark does not name the number
@@ -47,7 +48,7 @@ all_silent : (number : ℕ) (marks : List Mark) → has_mark_of number marks ≡
 all_silent number [] unnamed = All-nil (IsSilent number)
 all_silent number (mark ∷ later) unnamed =
     let parts : (is_mark_of number mark ≡ false) × (has_mark_of number later ≡ false) =
-    neither (is_mark_of number mark) (has_mark_of number later) unnamed in
+    or_parts (is_mark_of number mark) (has_mark_of number later) unnamed in
     All-cons (IsSilent number) mark later parts.0 (all_silent number later parts.1)
 
 not_contained : (number : ℕ) (marks : List Mark) (mark : Mark) → has_mark_of number marks ≡ false → is_mark_of number mark ≡ true

@@ -1,5 +1,5 @@
 -- Entries of finite maps, in the order of their keys.
-use Rattle.std.proofs.Common.{◌≡◌, ℕ, Bool, true, false, cond, ◌&&◌, List, [], ◌∷◌, sym, ap, ◌∙◌, refl, inl, inr}
+use Rattle.std.proofs.Common.{◌≡◌, ℕ, Bool, true, false, cond, List, [], ◌∷◌, sym, ap, ◌∙◌, refl, inl, inr}
 use Rattle.std.specs.Prelude.{Option, Some, None, T}
 use Rattle.std.specs.List.{cons_option, filter, filter_map}
 use Rattle.std.specs.Cmp.{IsTotalOrder, tied_itself}
@@ -12,16 +12,8 @@ use Rattle.std.specs.declared.cmp.Ordering.{Ordering}
 use Rattle.std.specs.declared.cmp.Ordering.TheVariants.{Less, Equal, Greater}
 use Rattle.std.proofs.lemmas.Map.Lookups.{exact_bytes}
 use Rattle.host_calls.specs.Directory.{Files}
+use Rattle.host_calls.proofs.CommonLemmas.{first_of_both, second_of_both}
 use Rattle.spool_shows.proofs.Membership.{Has, filtered_has, given_has}
-
--- of a conjunction
-pub left : (a b : Bool) → T (a && b) → T a
-left true b is = tt
-left false b is = absurd is
-
-pub right : (a b : Bool) → T (a && b) → T b
-right true b is = is
-right false b is = absurd is
 
 less : (order : Ordering) → T (is_lt order) → order ≡ Less
 less Less is = refl
@@ -36,8 +28,8 @@ equal Greater is = let impossible : false ≡ true = is in cc
 pub below : {K X : Type 0} → (R : K → K → Ordering) (low : K) (es : List (K × X)) (e : K × X) → T (below_all R low es)
     → Has es e → R low e.0 ≡ Less
 below R low [] e under has = absurd has
-below R low (first ∷ later) e under (inl same) = ap (λ entry. R low entry.0) (sym same) ∙ less _ (left _ _ under)
-below R low (first ∷ later) e under (inr has) = below R low later e (right _ _ under) has
+below R low (first ∷ later) e under (inl same) = ap (λ entry. R low entry.0) (sym same) ∙ less _ (first_of_both _ _ under)
+below R low (first ∷ later) e under (inr has) = below R low later e (second_of_both _ _ under) has
 
 -- an entry is found under its key
 pub has_key : {K X : Type 0} → (R : K → K → Ordering) → IsTotalOrder R → (es : List (K × X)) (key : K) (value : X) → T (is_sorted R es)
@@ -47,9 +39,10 @@ has_key {X = X} R order (first ∷ later) key value sorted (inl same) =
     let tied : is_eq (R key first.0) ≡ true = ap (λ entry. is_eq (R key entry.0)) same ∙ ap is_eq (tied_itself order key) in
     ap (λ b. cond b (Some first.1) (find R key later)) tied ∙ ap (λ entry. Some entry.1) same
 has_key R order (first ∷ later) key value sorted (inr has) =
-    let under : R first.0 key ≡ Less = below R first.0 later (key, value) (left _ _ sorted) has in
+    let under : R first.0 key ≡ Less = below R first.0 later (key, value) (first_of_both _ _ sorted) has in
     let over : R key first.0 ≡ Greater = order.antisymm key first.0 ∙ ap ordering_reverse under in
-    ap (λ answer. cond (is_eq answer) (Some first.1) (find R key later)) over ∙ has_key R order later key value (right _ _ sorted) has
+    ap (λ answer. cond (is_eq answer) (Some first.1) (find R key later)) over
+    ∙ has_key R order later key value (second_of_both _ _ sorted) has
 
 -- what is found under a key is its entry
 pub key_has : {K X : Type 0} → (R : K → K → Ordering) → ((x y : K) → R x y ≡ Equal → x ≡ y) → (es : List (K × X)) (key : K) (value : X)
@@ -98,11 +91,11 @@ pub apart_sorted : {X : Type 0} → (R : List ℕ → List ℕ → Ordering) →
 apart_sorted R order [] sorted = tt
 apart_sorted {X} R order (first ∷ later) sorted = (
   λ other has same.
-      let under : R first.0 other.0 ≡ Less = below R first.0 later other (left _ _ sorted) has in
+      let under : R first.0 other.0 ≡ Less = below R first.0 later other (first_of_both _ _ sorted) has in
       let itself : R first.0 other.0 ≡ Equal = ap (R first.0) same ∙ tied_itself order first.0 in
       let impossible : Less ≡ Equal = sym under ∙ itself in
       cc,
-  apart_sorted R order later (right _ _ sorted),
+  apart_sorted R order later (second_of_both _ _ sorted),
 )
 
 pub apart_filtered : {X : Type 0} → (key : X → List ℕ) (test : X → Bool) (xs : List X) → AreApart key xs → AreApart key (filter test xs)

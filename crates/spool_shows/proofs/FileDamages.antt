@@ -9,11 +9,11 @@ use Rattle.std.proofs.Math.Nat.{eq-or-lt_of_le}
 use Rattle.host_calls.specs.declared.damage.Damage.{Damage}
 use Rattle.host_calls.specs.Damages.{damage_at}
 use Rattle.host_calls.specs.Directory.{Files}
+use Rattle.host_calls.proofs.CommonLemmas.{or_true}
 use Rattle.job_script.specs.Header.{IsHeaderFault}
 use Rattle.job_script.specs.HeaderIn.{header_in, header_place}
 use Rattle.job_script.proofs.HeaderInLemmas.{header_in-none, header_place-fault}
 use Rattle.start_journal.specs.declared.mark.Mark.{Mark}
-use Rattle.start_journal.proofs.MarkLemmas.{or_true}
 use Rattle.spool_shows.specs.ByName.{IsJobFile, IsWholeFile}
 use Rattle.spool_shows.specs.FirstDamage.{IsEarlierName, IsDamagedAt, IsFileDamage, IsSecond, IsUndamaged, no_header, not_drawn, second}
 use Rattle.spool_shows.specs.JobFiles.{JobFile, damage_of, file_place, files_damage, header_fault_in}

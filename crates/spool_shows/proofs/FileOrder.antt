@@ -11,11 +11,12 @@ use Rattle.std.specs.declared.cmp.Ordering.{Ordering}
 use Rattle.std.specs.declared.cmp.Ordering.TheVariants.{Less, Equal, Greater}
 use Rattle.std.proofs.lemmas.Map.Lookups.{exact_bytes}
 use Rattle.host_calls.specs.Directory.{Files, name_cmp}
+use Rattle.host_calls.proofs.CommonLemmas.{first_of_both, second_of_both}
 use Rattle.job_name.specs.JobName.{job_named}
 use Rattle.start_journal.specs.declared.mark.Mark.{Mark}
 use Rattle.spool_shows.specs.FirstDamage.{IsEarlierName}
 use Rattle.spool_shows.specs.JobFiles.{JobFile, counts, job_file}
-use Rattle.spool_shows.proofs.EntryLists.{below, left, right}
+use Rattle.spool_shows.proofs.EntryLists.{below}
 use Rattle.spool_shows.proofs.FileLemmas.{file_says, files_that_count}
 use Rattle.spool_shows.proofs.Membership.{Has, filtered_has, given_has}
 
@@ -28,7 +29,7 @@ AreInOrder {X} key (x ∷ later) = ((other : X) → Has later other → name_cmp
 pub order_sorted : {X : Type 0} → (es : List (List ℕ × X)) → T (is_sorted name_cmp es) → AreInOrder (λ (e : List ℕ × X). e.0) es
 order_sorted [] sorted = tt
 order_sorted (first ∷ later) sorted =
-    (λ other has. below name_cmp first.0 later other (left _ _ sorted) has, order_sorted later (right _ _ sorted))
+    (λ other has. below name_cmp first.0 later other (first_of_both _ _ sorted) has, order_sorted later (second_of_both _ _ sorted))
 
 pub order_filtered : {X : Type 0} → (key : X → List ℕ) (test : X → Bool) (xs : List X) → AreInOrder key xs → AreInOrder key (filter test xs)
 order_filtered key test [] order = tt

@@ -12,11 +12,6 @@ use Rattle.start_journal.specs.Marks.{AreLegalMarks, batch_second, decides, firs
 use Rattle.start_journal.proofs.LifeLemmas.{any_more}
 use Rattle.start_journal.proofs.MarkLemmas.{decides_names, forgets_names, forgotten_was_decided}
 
--- none of the two holds
-pub neither : (one other : Bool) → (one || other) ≡ false → (one ≡ false) × (other ≡ false)
-neither true other is = cc
-neither false other is = (refl, is)
-
 -- One more mark.
 
 -- what one more mark does not pass, none passed before

@@ -4,11 +4,11 @@ use Rattle.std.specs.Prelude.{◌==◌, Option, Some, None, IsSome, nat_lt, if�
 use Rattle.std.specs.List.{list_any}
 use Rattle.std.specs.Option.{option_or}
 use Rattle.std.proofs.lemmas.Bool.Decides.{nat_tests}
+use Rattle.std.proofs.lemmas.Bool.{or_parts}
 use Rattle.job_script.specs.HeaderIn.{header_in}
 use Rattle.spool_shows.specs.ByName.{IsWholeFile}
 use Rattle.spool_shows.specs.JobFiles.{JobFile, damage_of, file_place, files_damage, header_fault_in}
 use Rattle.spool_shows.proofs.EntryLists.{AreApart}
-use Rattle.spool_shows.proofs.MarkTests.{neither}
 use Rattle.spool_shows.proofs.Membership.{Has}
 
 -- the files are whole, and each has a number that none before it has
@@ -44,7 +44,7 @@ no_fault last before file is = by_test (nat_lt last file.job.number || list_any 
   by_test true test none = let impossible : ◌≡◌ {A = Option ℕ} (Some 0) None = none in cc
   by_test false test none =
       let both : (nat_lt last file.job.number ≡ false)
-      × (list_any (λ number. number == file.job.number) before ≡ false) = neither _ _ test in
+      × (list_any (λ number. number == file.job.number) before ≡ false) = or_parts _ _ test in
       let late : nat_lt last file.job.number ≡ false = both.0 in
       (record { drawn = grind (arith, nat_tests); header = header_there file.bytes (header_in file.bytes) none }, both.1)
 
@@ -85,13 +85,13 @@ fresh_of last before [] file fine has = absurd has
 fresh_of last before (first ∷ later) file fine (inl same) =
     ap (λ (of : JobFile). list_any (λ number. number == of.job.number) before) (sym same) ∙ fine.1
 fresh_of last before (first ∷ later) file fine (inr has) =
-    (neither (first.job.number == file.job.number) _ (fresh_of last (first.job.number ∷ before) later file fine.2 has)).1
+    (or_parts (first.job.number == file.job.number) _ (fresh_of last (first.job.number ∷ before) later file fine.2 has)).1
 
 differs_from : (last : ℕ) (before : List ℕ) (first : JobFile) (later : List JobFile) (file : JobFile)
     → AreFine last (first.job.number ∷ before) later → Has later file → ¬ (first.job.number ≡ file.job.number)
 differs_from last before first later file fine has same =
     let fresh : (first.job.number == file.job.number) ≡ false =
-    (neither (first.job.number == file.job.number) _ (fresh_of last (first.job.number ∷ before) later file fine has)).0 in
+    (or_parts (first.job.number == file.job.number) _ (fresh_of last (first.job.number ∷ before) later file fine has)).0 in
     grind (arith, nat_tests)
 
 -- no number has two files

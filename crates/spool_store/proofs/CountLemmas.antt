@@ -1,5 +1,5 @@
 -- The rows and finished numbers of a store are those of its table.
-use Rattle.std.proofs.Common.{◌≡◌, ℕ, Bool, true, false, cond, ◌&&◌, List, [], ◌∷◌, length, map, sym, ap, subst, ◌∙◌, refl}
+use Rattle.std.proofs.Common.{◌≡◌, ℕ, Bool, true, false, cond, List, [], ◌∷◌, length, map, sym, ap, subst, ◌∙◌, refl}
 use Rattle.std.specs.Prelude.{Option, Some, None, T}
 use Rattle.std.specs.Cmp.{nat_cmp_total}
 use Rattle.std.specs.FinMap.{entries, entries_sorted, get-entries}
@@ -8,6 +8,7 @@ use Rattle.std.specs.List.{cons_option, filter, filter_map}
 use Rattle.std.specs.Ordering.{nat_cmp}
 use Rattle.std.proofs.lemmas.List.{length-map}
 use Rattle.std.proofs.lemmas.Map.Lookups.{exact_unsigned}
+use Rattle.host_calls.proofs.CommonLemmas.{both_hold, first_of_both, second_of_both}
 use Rattle.spool_model.specs.declared.entry.Entry.TheVariants.{Live, Done}
 use Rattle.spool_model.specs.declared.decided.Decided.{Decided}
 use Rattle.spool_model.specs.declared.row.Row.{Row}
@@ -17,30 +18,25 @@ use Rattle.spool_shows.proofs.Membership.{Has, contained, filtered_has, has_cont
 use Rattle.spool_store.specs.Listed.{ListsDecided, ListsLive}
 use Rattle.spool_store.specs.Rows.{decided_entry, row_entry}
 use Rattle.spool_model.specs.Lists.{done_count, done_numbers, done_under, is_done, is_live, live_count, live_rows, row_under}
-use Rattle.spool_store.proofs.Edits.{left, right, test_from}
-
--- of two tests that pass
-both : (a b : Bool) → T a → T b → T (a && b)
-both true b one two = two
-both false b one two = absurd one
+use Rattle.spool_store.proofs.Edits.{test_from}
 
 -- entries that pass a test rise as all of them do
 below_filtered : (test : ℕ × JobEntry → Bool) (number : ℕ) (list : List (ℕ × JobEntry)) → T (below_all nat_cmp number list)
     → T (below_all nat_cmp number (filter test list))
 below_filtered test number [] below = tt
-below_filtered test number (entry ∷ later) below = by_test (test entry) (below_filtered test number later (right _ _ below)) where
+below_filtered test number (entry ∷ later) below = by_test (test entry) (below_filtered test number later (second_of_both _ _ below)) where
   by_test : (passes : Bool) → T (below_all nat_cmp number (filter test later))
       → T (below_all nat_cmp number (cond passes (entry ∷ filter test later) (filter test later)))
-  by_test true rest = both _ _ (left _ _ below) rest
+  by_test true rest = both_hold _ _ (first_of_both _ _ below) rest
   by_test false rest = rest
 
 sorted_filtered : (test : ℕ × JobEntry → Bool) (list : List (ℕ × JobEntry)) → T (is_sorted nat_cmp list)
     → T (is_sorted nat_cmp (filter test list))
 sorted_filtered test [] sorted = tt
-sorted_filtered test (entry ∷ later) sorted = by_test (test entry) (sorted_filtered test later (right _ _ sorted)) where
+sorted_filtered test (entry ∷ later) sorted = by_test (test entry) (sorted_filtered test later (second_of_both _ _ sorted)) where
   by_test : (passes : Bool) → T (is_sorted nat_cmp (filter test later))
       → T (is_sorted nat_cmp (cond passes (entry ∷ filter test later) (filter test later)))
-  by_test true rest = both _ _ (below_filtered test entry.0 later (left _ _ sorted)) rest
+  by_test true rest = both_hold _ _ (below_filtered test entry.0 later (first_of_both _ _ sorted)) rest
   by_test false rest = rest
 
 -- lists that rise and have the same entries are one

@@ -1,13 +1,14 @@
 -- Lists in the order of their numbers: what is under a number, and one element put, changed or taken out.
-use Rattle.std.proofs.Common.{◌≡◌, ℕ, zero, suc, ◌<◌, ◌≤◌, Bool, true, false, cond, not, ◌&&◌, List, [], ◌∷◌, ◌++◌, length, map, set, get_or, refl, sym, ap, subst, ◌∙◌, inl, inr, arith}
+use Rattle.std.proofs.Common.{◌≡◌, ℕ, zero, suc, ◌<◌, ◌≤◌, Bool, true, false, cond, not, List, [], ◌∷◌, ◌++◌, length, map, set, get_or, refl, sym, ap, subst, ◌∙◌, inl, inr, arith}
 use Rattle.std.specs.Prelude.{Some, None, IsSome, IsTrue, T}
 use Rattle.std.specs.List.{AllWithin, insert, remove}
-use Rattle.std.specs.Cmp.{nat_cmp_total, nat_cmp_is, eq_by_cmp_equiv, ranked, unsigned_tied}
+use Rattle.std.specs.Cmp.{nat_cmp_total, nat_cmp_is, eq_by_cmp_equiv, unsigned_tied}
 use Rattle.std.specs.Ordering.{eq_by_cmp, is_eq, is_lt, nat_cmp}
 use Rattle.std.specs.FinMap.Entries.{below_all, by_order, find, find-put, find-where_key, is_sorted, is_sorted-put, is_sorted-where_key, put, where_key}
 use Rattle.std.specs.declared.cmp.Ordering.{Ordering}
 use Rattle.std.specs.declared.cmp.Ordering.TheVariants.{Less, Equal, Greater}
 use Rattle.std.proofs.lemmas.Map.Lookups.{exact_unsigned}
+use Rattle.host_calls.proofs.CommonLemmas.{first_of_both, second_of_both, less_than}
 use Rattle.spool_model.specs.JobTable.{JobEntry}
 use Rattle.spool_store.specs.Listed.{IsEdited, AreSortedEntries}
 use Rattle.spool_shows.proofs.EntryLists.{key_has}
@@ -20,15 +21,6 @@ pub test_to : (b : Bool) → T b → IsTrue b
 test_to true is = refl
 test_to false is = absurd is
 
--- of a conjunction
-pub left : (a b : Bool) → T (a && b) → T a
-left true b is = tt
-left false b is = absurd is
-
-pub right : (a b : Bool) → T (a && b) → T b
-right true b is = is
-right false b is = absurd is
-
 less : (a b : ℕ) → a < b → nat_cmp a b ≡ Less
 less a b h = sym (nat_cmp_is a b Less h)
 
@@ -38,13 +30,10 @@ same_cmp a b h = sym (nat_cmp_is a b Equal h)
 more : (a b : ℕ) → b < a → nat_cmp a b ≡ Greater
 more a b h = sym (nat_cmp_is a b Greater h)
 
-below_is : (a b : ℕ) → nat_cmp a b ≡ Less → a < b
-below_is a b is = ranked a b Less (sym is)
-
 -- a number below all is below the first, and below each
 first_below : {V : Type 0} → (number : ℕ) (e : ℕ × V) (later : List (ℕ × V)) → T (below_all nat_cmp number (e ∷ later)) → number < e.0
 first_below number e later under =
-    below_is number e.0 (less_of (nat_cmp number e.0) (left (is_lt (nat_cmp number e.0)) (below_all nat_cmp number later) under))
+    less_than number e.0 (less_of (nat_cmp number e.0) (first_of_both (is_lt (nat_cmp number e.0)) (below_all nat_cmp number later) under))
   where
     less_of : (order : Ordering) → T (is_lt order) → order ≡ Less
     less_of Less is = refl
@@ -56,7 +45,7 @@ each_below number [] e under has = absurd has
 each_below {V} number (first ∷ later) e under (inl same) =
     subst (λ (entry : ℕ × V). number < entry.0) same (first_below number first later under)
 each_below number (first ∷ later) e under (inr has) =
-    each_below number later e (right (is_lt (nat_cmp number first.0)) (below_all nat_cmp number later) under) has
+    each_below number later e (second_of_both (is_lt (nat_cmp number first.0)) (below_all nat_cmp number later) under) has
 
 -- another number is not tied
 not_tied : (a b : ℕ) → (a ≡ b → ⊥) → eq_by_cmp nat_cmp a b ≡ false
@@ -96,7 +85,7 @@ where_all {V} number (e ∷ later) under =
     let here : number < e.0 = first_below number e later under in
     ap (λ b. cond (not b) (e ∷ where_key nat_cmp (λ q. not (eq_by_cmp nat_cmp number q)) later)
     (where_key nat_cmp (λ q. not (eq_by_cmp nat_cmp number q)) later)) (not_tied number e.0 (λ same. omega arith))
-    ∙ ap (λ (es : List (ℕ × V)). e ∷ es) (where_all number later (right _ _ under))
+    ∙ ap (λ (es : List (ℕ × V)). e ∷ es) (where_all number later (second_of_both _ _ under))
 
 module _ {X V : Type 0} (entry : X → ℕ × V) where
   abbrev pub IsBefore : ℕ → X → Type 0
@@ -169,10 +158,10 @@ module _ {X V : Type 0} (entry : X → ℕ × V) where
   remove_is_where (y ∷ later) zero number rise before inside here =
       sym (ap (λ b. cond (not b) (entry y ∷ where_key nat_cmp (λ q. not (eq_by_cmp nat_cmp number q)) (map entry later))
       (where_key nat_cmp (λ q. not (eq_by_cmp nat_cmp number q)) (map entry later))) (tied number (entry y).0 (sym (here y)))
-      ∙ where_all number (map entry later) (subst (λ at. T (below_all nat_cmp at (map entry later))) (here y) (left _ _ rise)))
+      ∙ where_all number (map entry later) (subst (λ at. T (below_all nat_cmp at (map entry later))) (here y) (first_of_both _ _ rise)))
   remove_is_where (y ∷ later) (suc place) number rise before inside here =
       let first : (entry y).0 < number = before 0 y (omega arith) (omega arith) in
-      ap (λ (es : List (ℕ × V)). entry y ∷ es) (remove_is_where later place number (right _ _ rise)
+      ap (λ (es : List (ℕ × V)). entry y ∷ es) (remove_is_where later place number (second_of_both _ _ rise)
       (λ k d low high. before (suc k) d (omega arith) (omega arith)) (omega arith) here)
       ∙ sym (ap (λ b. cond (not b) (entry y ∷ where_key nat_cmp (λ q. not (eq_by_cmp nat_cmp number q)) (map entry later))
       (where_key nat_cmp (λ q. not (eq_by_cmp nat_cmp number q)) (map entry later))) (not_tied number (entry y).0 (λ same. omega arith)))
@@ -196,12 +185,13 @@ module _ {X V : Type 0} (entry : X → ℕ × V) where
     by_test false is some =
         let here : number ≤ (entry y).0 = after 0 y (omega arith) (omega arith) in
         let has : Has (map entry later) (number, value) = key_has nat_cmp exact_unsigned (map entry later) number value some in
-        let under : (entry y).0 < number = each_below (entry y).0 (map entry later) (number, value) (left _ _ rise) has in
+        let under : (entry y).0 < number = each_below (entry y).0 (map entry later) (number, value) (first_of_both _ _ rise) has in
         absurd (omega arith)
   at_place (y ∷ later) (suc place) number value rise before after found =
       let first : (entry y).0 < number = before 0 y (omega arith) (omega arith) in
       let rest : (place < length later) × ((d : X) → entry (get_or later place d) ≡ (number, value)) =
-      at_place later place number value (right (below_all nat_cmp (entry y).0 (map entry later)) (is_sorted nat_cmp (map entry later)) rise)
+      at_place later place number value
+      (second_of_both (below_all nat_cmp (entry y).0 (map entry later)) (is_sorted nat_cmp (map entry later)) rise)
       (λ k d low high. before (suc k) d (omega arith) (omega arith)) (λ k d low high. after (suc k) d (omega arith) (omega arith))
       (sym (found_after number (entry y) (map entry later) (λ same. omega arith)) ∙ found) in
       let inside : place < length later = rest.0 in
@@ -213,9 +203,9 @@ module _ {X V : Type 0} (entry : X → ℕ × V) where
   neighbours_rise [] k d rise inside = absurd (omega arith)
   neighbours_rise (y ∷ []) k d rise inside = absurd (omega arith)
   neighbours_rise (y ∷ z ∷ later) zero d rise inside =
-      let under : (entry y).0 < (entry z).0 = first_below (entry y).0 (entry z) (map entry later) (left _ _ rise) in
+      let under : (entry y).0 < (entry z).0 = first_below (entry y).0 (entry z) (map entry later) (first_of_both _ _ rise) in
       omega arith
-  neighbours_rise (y ∷ z ∷ later) (suc k) d rise inside = neighbours_rise (z ∷ later) k d (right _ _ rise) (omega arith)
+  neighbours_rise (y ∷ z ∷ later) (suc k) d rise inside = neighbours_rise (z ∷ later) k d (second_of_both _ _ rise) (omega arith)
 
 -- the other way round
 turned : {A : Type 0} (b : Bool) (x y : A) → cond (not b) x y ≡ cond b y x

@@ -2,6 +2,7 @@
 use Rattle.std.proofs.Common.{◌≡◌, ℕ, Bool, true, false, not, List, Option, Some, None, sym, ap, ◌∙◌, refl, arith}
 use Rattle.std.specs.Prelude.{◌||◌, is_some, nat_eq}
 use Rattle.std.specs.Cmp.Lexicographic.{pointwise, unequal}
+use Rattle.host_calls.proofs.CommonLemmas.{or_true}
 use Rattle.job_name.specs.declared.job.JobName.{JobName}
 use Rattle.job_name.specs.JobName.{SpellsJobName, NamedJob, job_named}
 use Rattle.whole_file.specs.Temporary.{temporary_file}
@@ -10,7 +11,6 @@ use Rattle.start_journal.specs.declared.lifecycles.Lifecycles.{Lifecycles}
 use Rattle.start_journal.specs.declared.mark.Mark.{Mark}
 use Rattle.start_journal.specs.Lifecycles.{TellLifecycles, lifecycle_in}
 use Rattle.start_journal.specs.Marks.{is_decided}
-use Rattle.start_journal.proofs.MarkLemmas.{or_true}
 use Rattle.spool_shows.specs.JobFiles.{counts_as}
 use Rattle.job_name.proofs.JobNameLemmas.{few_digits}
 use Rattle.job_name.proofs.NamedJobs.{name_given, name_spelled}

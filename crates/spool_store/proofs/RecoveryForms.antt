@@ -3,7 +3,7 @@ use Rattle.std.proofs.Common.{◌≡◌, ◌<◌, ◌≤◌, ◌+◌, ◌^◌, �
 use Rattle.std.specs.Prelude.{◌==◌, Option, Some, None, IsSome, is_some}
 use Rattle.std.specs.FinMap as finite
 use Rattle.std.specs.List.{filter, list_any}
-use Rattle.std.proofs.lemmas.Bool.{eqb-true}
+use Rattle.std.proofs.lemmas.Bool.{eqb-true, or_parts, not-true}
 use Rattle.std.proofs.lemmas.List.{take_all, take_more}
 use Rattle.host_calls.specs.Directory.{Files}
 use Rattle.spool_model.specs.Numbers.{number_digits}
@@ -15,7 +15,6 @@ use Rattle.spool_shows.specs.ByName.{AreSound, IsJobFile, ShowsByName}
 use Rattle.spool_shows.specs.JobFiles.{JobFile, job_files}
 use Rattle.spool_shows.proofs.ByNameReads.{journal_read}
 use Rattle.spool_shows.proofs.FileLemmas.{counted_is_file, file_is_counted, one_file}
-use Rattle.spool_shows.proofs.MarkTests.{neither as neither_of}
 use Rattle.spool_shows.proofs.Membership.{Has, any_passes, filtered_has, has_filtered, has_made, made_has, one_passes}
 use Rattle.spool_shows.proofs.OneMark.{ok_same}
 use Rattle.spool_shows.proofs.ShownEntries.{passes_same}
@@ -32,10 +31,6 @@ use Rattle.spool_store.proofs.ScanLemmas.{scanned_at, scanned_after, scanned_ins
 was_true : (b : Bool) → not b ≡ false → b ≡ true
 was_true true is = refl
 was_true false is = cc
-
-was_false : (b : Bool) → not b ≡ true → b ≡ false
-was_false false is = refl
-was_false true is = cc
 
 module _ (last : ℕ) (marks : List Mark) (files : Files) (sound : AreSound last marks files) where
   -- the numbers of names in the old form
@@ -118,7 +113,7 @@ forms_found files scan found left stays gone = subst (λ list. HaveForms list fo
   by_left name job named there true over = let impossible : false ≡ true = sym (ap is_some (gone name over)) ∙ there in cc
   by_left name job named there false over =
       let held = held_there (finite.get files name) (subst IsSome (stays name over) there) in
-      let undecided : is_decided job.number marks ≡ false = sym (ap (is_decided_job marks) named) ∙ (neither_of _ _ over).1 in
+      let undecided : is_decided job.number marks ≡ false = sym (ap (is_decided_job marks) named) ∙ (or_parts _ _ over).1 in
       form_known found.table.last marks files sound (record { name = name; job = job; bytes = held.0 })
       (record { held = held.1; named = named; undecided = undecided })
 
@@ -196,6 +191,6 @@ are_old_form scanned number known =
     let kept = filtered_has is_old_form (files_scanned scanned) made.0 made.1 in
     let found = made_has file_scanned scanned made.0 kept.0 in
     let number_is : found.0.job.number ≡ number = ap number_of found.2 ∙ made.2 ∙ eqb-true one.0 number one.2 in
-    let form : found.0.job.new_form ≡ false = was_false found.0.job.new_form (ap is_old_form found.2 ∙ kept.1) in
+    let form : found.0.job.new_form ≡ false = not-true found.0.job.new_form (ap is_old_form found.2 ∙ kept.1) in
     subst (λ n. n < 16 ^ number_digits false) number_is
     (subst (λ new_form. found.0.job.number < 16 ^ number_digits new_form) form found.0.job.fits)

@@ -33,6 +33,7 @@ use Rattle.host_calls.specs.declared.store_fault.StoreFault.TheVariants.{Damaged
 use Rattle.spool_store.specs.declared.directory_scan.RecoveryScan.{RecoveryScan}
 use Rattle.host_calls.specs.Damages.{IfDamaged}
 use Rattle.host_calls.specs.StoreFaults.{IsReadingFault, store_fault_of}
+use Rattle.host_calls.proofs.CommonLemmas.{settled_before, settling_reads}
 use Rattle.spool_store.specs.inside.Scan.{IsScan, is_left_over}
 use Rattle.spool_store.specs.Recovery.{IsRecovered, Recovered, ShowsAsBeforeNewFormNames, ShowsTheSame}
 use Rattle.whole_file.proofs.ChangesJoined.{changes_join}
@@ -45,11 +46,6 @@ use Rattle.spool_store.proofs.RecoveryNames.{are_files, counting_stays, decided_
 as_before : (start : Directory) (image : Files) → IsImage start image → ShowsAsBefore start image
 as_before start image is = record { from = image; was = is; same = refl; others = λ name other. refl }
 
--- a directory that is settled has no new image
-settled_before : (start new : Directory) (image : Files) → IsSettled start new → IsImage new image → IsImage start image
-settled_before start new image done is =
-    subst (IsImage start) (sym (settled_image start image (subst (λ directory. IsImage directory image) done is))) (reading_is_image start)
-
 -- so what a settling directory may leave shows what was shown
 pub settling : {T : Type 0} (old new : World) (result : Result T HostFault) → FileCall IsSettled IsSyncedInPart old new result
     → ChangesFiles (ShowsAsBefore old.now.directory) old new
@@ -59,13 +55,6 @@ settling old new result call =
       | inl is ↦ as_before old.now.directory image is
       | inr done ↦ as_before old.now.directory image (settled_before old.now.directory done.0 image done.1 done.2)
     ])
-
--- and the reading is that of before, whatever came of it
-settling_reads : {T : Type 0} (old new : World) (result : Result T HostFault) → FileCall IsSettled IsSyncedInPart old new result
-    → reading new ≡ reading old
-settling_reads old new (Ok value) call = ap reading_of call.outcome ∙ reading_of-settled old.now.directory
-settling_reads old new (Err host.Failed) call = elim call.outcome [ inl same ↦ ap reading_of same | inr part ↦ part.reading ]
-settling_reads old new (Err host.Memory) call = ap reading call.outcome
 
 settling_shows : {T : Type 0} (old new : World) (result : Result T HostFault) → FileCall IsSettled IsSyncedInPart old new result
     → ShowsTheSame old.now.directory new.now.directory

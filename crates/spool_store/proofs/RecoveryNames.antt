@@ -11,7 +11,8 @@ use Rattle.start_journal.specs.declared.mark.Mark.{Mark}
 use Rattle.start_journal.specs.Journals.{journal_file}
 use Rattle.start_journal.specs.Marks.{is_decided}
 use Rattle.std.proofs.lemmas.Bool.{not-true, or_cases}
-use Rattle.start_journal.proofs.MarkLemmas.{or_false, or_true}
+use Rattle.host_calls.proofs.CommonLemmas.{or_true}
+use Rattle.start_journal.proofs.MarkLemmas.{or_false}
 use Rattle.whole_file.specs.Removal.{AreFiles}
 use Rattle.spool_shows.specs.JobFiles.{counts, counts_as}
 use Rattle.job_name.specs.JobName.{NamedJob, job_named}

@@ -13,16 +13,16 @@ use Rattle.std.proofs.lemmas.Map.Lookups.{exact_unsigned}
 use Rattle.host_calls.specs.declared.damage.Damage.{Damage}
 use Rattle.spool_model.specs.declared.row.Row.{Row}
 use Rattle.start_journal.specs.declared.mark.Mark.{Mark}
-use Rattle.std.proofs.lemmas.Bool.{eqb-true}
-use Rattle.start_journal.proofs.MarkLemmas.{or_false, or_true}
+use Rattle.std.proofs.lemmas.Bool.{eqb-true, or_parts}
+use Rattle.start_journal.proofs.MarkLemmas.{or_false}
 use Rattle.spool_shows.specs.JobFiles.{JobFile, damage_of, file_of, file_place, files_damage, header_fault_in}
 use Rattle.job_script.specs.HeaderIn.{header_in}
-use Rattle.spool_shows.proofs.MarkTests.{neither}
 use Rattle.spool_shows.proofs.StartLemmas.{number_passes}
 use Rattle.host_calls.specs.declared.store_fault.StoreFault.{StoreFault}
 use Rattle.host_calls.specs.declared.store_fault.StoreFault.TheVariants.{Damaged}
 use Rattle.spool_store.specs.declared.scanned_job.ScannedJob.{ScannedJob}
 use Rattle.host_calls.specs.StoreFaults.{IsFound}
+use Rattle.host_calls.proofs.CommonLemmas.{or_true}
 use Rattle.spool_store.specs.inside.ScannedJobs.{file_scanned, files_scanned}
 use Rattle.spool_store.specs.inside.JobRows.{AreRowsOf, IsScannedSoFar, IsRowInserted, IsRowOrDamage, IsTaken, RowMap, scanned_numbers, row_in_map, row_of}
 use Rattle.start_journal.proofs.LifecycleLemmas.{or_nothing}
@@ -97,7 +97,7 @@ new_number last before file is = by_test (nat_lt last file.job.number || list_an
   by_test : (fault : Bool) → (nat_lt last file.job.number || list_any (λ other. other == file.job.number) before) ≡ fault → cond fault
       (Some 0) (header_fault_in file.bytes (header_in file.bytes)) ≡ None → list_any (λ other. other == file.job.number) before ≡ false
   by_test true fault none = cc
-  by_test false fault none = (neither _ _ fault).1
+  by_test false fault none = (or_parts _ _ fault).1
 
 -- the row that is put is under the number of its file
 rows_more : (marks : List Mark) (files : List JobFile) (file : JobFile) (rows new : RowMap) (row : Row) → AreRowsOf marks files rows

@@ -2,6 +2,7 @@
 use Rattle.std.proofs.Common.{◌≡◌, ℕ, ◌<◌, Bool, true, false, List, Option, Some, None, ap, ◌∙◌, refl, arith}
 use Rattle.std.specs.Prelude.{MatchOption, nat_lt, unwrap_or}
 use Rattle.std.proofs.lemmas.Bool.Decides.{nat_tests}
+use Rattle.host_calls.proofs.CommonLemmas.{neither_less}
 use Rattle.job_script.specs.Header.{BeginsWithHeader, HasHeader, IsHeaderFault}
 use Rattle.job_script.specs.HeaderIn.{header_in, header_place}
 use Rattle.job_script.proofs.HeaderInLemmas.{header_in-none, header_in-some, header_place-fault}
@@ -16,9 +17,6 @@ user_read bytes user mail begins =
 
 is_less : (one other : ℕ) → nat_lt one other ≡ true → one < other
 is_less one other is = grind (arith, nat_tests)
-
-neither_less : (one other : ℕ) → nat_lt one other ≡ false → nat_lt other one ≡ false → one ≡ other
-neither_less one other is also = grind (arith, nat_tests)
 
 one_fault : (bytes : List ℕ) (place other : ℕ) → IsHeaderFault bytes place → IsHeaderFault bytes other → place ≡ other
 one_fault bytes place other one two = by_test (nat_lt place other) refl (nat_lt other place) refl where

@@ -13,6 +13,7 @@ use Rattle.host_calls.specs.ClockRange.{is_clock_second}
 use Rattle.host_calls.proofs.ClockRangeLemmas.{second_is, second_tested}
 use Rattle.start_journal.specs.Slots.{IsWritable, SpellsFields, SpellsMark, fields_of, mark_with}
 use Rattle.std.proofs.lemmas.Bool.{and_from, and_parts, eqb-true}
+use Rattle.host_calls.proofs.CommonLemmas.{same_number}
 use Rattle.start_journal.proofs.SlotLemmas.{mark_again, one_fields}
 use Rattle.text_reader.proofs.ValueLemmas.{spelled_digits, digits_spell}
 
@@ -69,14 +70,11 @@ same_fields one other is =
     let seconds : one.second ≡ other.second = eqb-true one.second other.second tests.5 in
     λ i. record { kind = kinds i; number = numbers i; queue = queues i; ending = endings i; status = statuses i; second = seconds i }
 
--- and the same fields pass it
-passes : (number : ℕ) → (number == number) ≡ true
-passes number = eq-eqb number number refl
-
 fields_pass : (fields : Fields) → are_same_fields fields fields ≡ true
 fields_pass fields =
-    rw (passes fields.kind)
-    (rw (passes fields.number) (rw (passes fields.queue) (rw (passes fields.ending) (rw (passes fields.status) (passes fields.second)))))
+    rw (same_number fields.kind)
+    (rw (same_number fields.number) (rw (same_number fields.queue) (rw (same_number fields.ending)
+    (rw (same_number fields.status) (same_number fields.second)))))
 
 -- the bytes of a slot have its form, and its fields
 pub spelled_form : (slot : List ℕ) (fields : Fields) → SpellsFields slot fields → has_form slot ≡ true

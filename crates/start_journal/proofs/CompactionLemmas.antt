@@ -1,8 +1,9 @@
 -- How many marks name forgotten numbers.
 use Rattle.std.proofs.Common.{◌≡◌, ℕ, ◌+◌, ◌*◌, ◌/◌, ◌<◌, ◌≤◌, Bool, true, false, List, [], ◌∷◌, Option, Some, None, length, cond, sym, ap, subst, ◌∙◌, refl, arith, IsTrue}
-use Rattle.std.specs.Prelude.{◌||◌, ◌&&◌, ◌==◌, count_by, nat_le, nat_lt}
+use Rattle.std.specs.Prelude.{◌||◌, ◌&&◌, count_by, nat_le, nat_lt}
 use Rattle.std.proofs.lemmas.Bool.Decides.{nat_tests}
 use Rattle.std.proofs.lemmas.List.Sums.{length-filter, sum_by-cons}
+use Rattle.host_calls.proofs.CommonLemmas.{flips}
 use Rattle.start_journal.specs.declared.mark.Mark.{Mark}
 use Rattle.start_journal.specs.declared.mark.Mark.TheVariants.{Removed, Started, Ended, Interrupted, Forgotten, Batch}
 use Rattle.start_journal.specs.declared.stage.Stage.{Stage}
@@ -111,17 +112,13 @@ none_gone : (named : Option ℕ) → is_gone [] named ≡ false
 none_gone None = refl
 none_gone (Some number) = refl
 
--- a first mark that forgets a number
-turned : (one other : ℕ) → (one == other) ≡ (other == one)
-turned one other = grind (arith, nat_tests)
-
 gone_with : (number : ℕ) (later : List Mark) (mark : Mark)
     → is_gone (Forgotten number ∷ later) (number_of_mark mark) ≡ (is_mark_of number mark || is_gone later (number_of_mark mark))
-gone_with number later (Removed other) = ap (λ b. b || is_forgotten other later) (turned number other)
-gone_with number later (Started other queue second) = ap (λ b. b || is_forgotten other later) (turned number other)
-gone_with number later (Ended other ending) = ap (λ b. b || is_forgotten other later) (turned number other)
-gone_with number later (Interrupted other) = ap (λ b. b || is_forgotten other later) (turned number other)
-gone_with number later (Forgotten other) = ap (λ b. b || is_forgotten other later) (turned number other)
+gone_with number later (Removed other) = ap (λ b. b || is_forgotten other later) (flips number other)
+gone_with number later (Started other queue second) = ap (λ b. b || is_forgotten other later) (flips number other)
+gone_with number later (Ended other ending) = ap (λ b. b || is_forgotten other later) (flips number other)
+gone_with number later (Interrupted other) = ap (λ b. b || is_forgotten other later) (flips number other)
+gone_with number later (Forgotten other) = ap (λ b. b || is_forgotten other later) (flips number other)
 gone_with number later (Batch second) = refl
 
 -- and one that forgets none

@@ -14,18 +14,14 @@ use Rattle.start_journal.specs.Marks.{AreLegalMarksAfter, IsLegalAfter, is_decid
 use Rattle.start_journal.specs.SlotBytes.{mark_in, right_prefix}
 use Rattle.start_journal.specs.Slots.{SpellsMark}
 use Rattle.start_journal.proofs.ByteLemmas.{given}
-use Rattle.std.proofs.lemmas.Bool.{and_from, and_parts, not-true}
-
--- the test of legality, both ways
-not_so : (b : Bool) → b ≡ false → not b ≡ true
-not_so b is = ap not is
+use Rattle.std.proofs.lemmas.Bool.{and_from, and_parts, not-true, not_from_false}
 
 pub legal_tested : (before : List Mark) (mark : Mark) → IsLegalAfter before mark → is_legal_after before mark ≡ true
-legal_tested before (Removed number) is = not_so (has_mark_of number before) is
-legal_tested before (Started number queue second) is = not_so (has_mark_of number before) is
-legal_tested before (Ended number ending) is = and_from (has_start_of number before) _ is.0 (not_so (is_ended number before) is.1)
-legal_tested before (Interrupted number) is = and_from (has_start_of number before) _ is.0 (not_so (is_ended number before) is.1)
-legal_tested before (Forgotten number) is = and_from (is_decided number before) _ is.0 (not_so (is_forgotten number before) is.1)
+legal_tested before (Removed number) is = not_from_false (has_mark_of number before) is
+legal_tested before (Started number queue second) is = not_from_false (has_mark_of number before) is
+legal_tested before (Ended number ending) is = and_from (has_start_of number before) _ is.0 (not_from_false (is_ended number before) is.1)
+legal_tested before (Interrupted number) is = and_from (has_start_of number before) _ is.0 (not_from_false (is_ended number before) is.1)
+legal_tested before (Forgotten number) is = and_from (is_decided number before) _ is.0 (not_from_false (is_forgotten number before) is.1)
 legal_tested before (Batch second) is = refl
 
 started_not_ended : (one other : Bool) → (one && not other) ≡ true → (one ≡ true) × (other ≡ false)

@@ -7,6 +7,7 @@ use Rattle.std.proofs.lemmas.Bool.{or_cases}
 use Rattle.std.proofs.lemmas.Bool.Decides.{eqb_tells, nat_tests}
 use Rattle.std.proofs.lemmas.List.{drop-drop}
 use Rattle.std.proofs.lemmas.List.Folds.{list_any-append}
+use Rattle.host_calls.proofs.CommonLemmas.{same_number, or_true}
 use Rattle.start_journal.specs.declared.mark.Mark.{Mark}
 use Rattle.start_journal.specs.declared.mark.Mark.TheVariants.{Removed, Started, Ended, Interrupted, Forgotten, Batch}
 use Rattle.start_journal.specs.FirstFault.{IsRightBefore, slot_at}
@@ -15,7 +16,6 @@ use Rattle.start_journal.specs.Marks.{AreLegalMarks, AreLegalMarksAfter, IsLegal
 use Rattle.start_journal.specs.SlotBytes.{mark_in, right_prefix}
 use Rattle.start_journal.specs.Slots.{SpellsMark}
 use Rattle.start_journal.proofs.JournalLemmas.{legal_tested}
-use Rattle.start_journal.proofs.MarkLemmas.{or_true}
 use Rattle.start_journal.proofs.ReadLemmas.{IsAfter, one_after, taken}
 
 -- Slots.
@@ -132,16 +132,13 @@ pub record NamesUndrawn (last : ℕ) (mark : Mark) : Type 0 where
   pub named : is_mark_of number mark ≡ true
   pub greater : last < number
 
--- the number itself is named
-itself : (number : ℕ) → (number == number) ≡ true
-itself number = grind (arith, nat_tests)
-
 pub undrawn_names : (last : ℕ) (mark : Mark) → is_drawn last mark ≡ false → NamesUndrawn last mark
-undrawn_names last (Removed other) is = record { number = other; named = itself other; greater = grind (arith, nat_tests) }
-undrawn_names last (Started other queue second) is = record { number = other; named = itself other; greater = grind (arith, nat_tests) }
-undrawn_names last (Ended other ending) is = record { number = other; named = itself other; greater = grind (arith, nat_tests) }
-undrawn_names last (Interrupted other) is = record { number = other; named = itself other; greater = grind (arith, nat_tests) }
-undrawn_names last (Forgotten other) is = record { number = other; named = itself other; greater = grind (arith, nat_tests) }
+undrawn_names last (Removed other) is = record { number = other; named = same_number other; greater = grind (arith, nat_tests) }
+undrawn_names last (Started other queue second) is =
+    record { number = other; named = same_number other; greater = grind (arith, nat_tests) }
+undrawn_names last (Ended other ending) is = record { number = other; named = same_number other; greater = grind (arith, nat_tests) }
+undrawn_names last (Interrupted other) is = record { number = other; named = same_number other; greater = grind (arith, nat_tests) }
+undrawn_names last (Forgotten other) is = record { number = other; named = same_number other; greater = grind (arith, nat_tests) }
 undrawn_names last (Batch second) is = let impossible : true ≡ false = is in cc
 
 pub drawn_all : (last : ℕ) (mark : Mark) → ((number : ℕ) → is_mark_of number mark ≡ true → number ≤ last) → is_drawn last mark ≡ true

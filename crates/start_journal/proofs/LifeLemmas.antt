@@ -5,6 +5,7 @@ use Rattle.std.specs.List.{list_any}
 use Rattle.std.proofs.lemmas.Bool.{eqb-true, or_parts}
 use Rattle.std.proofs.lemmas.List.{append-nil}
 use Rattle.std.proofs.lemmas.List.Folds.{list_any-append}
+use Rattle.host_calls.proofs.CommonLemmas.{or_true}
 use Rattle.start_journal.specs.declared.mark.Mark.{Mark}
 use Rattle.start_journal.specs.declared.mark.Mark.TheVariants.{Removed, Started, Ended, Interrupted, Forgotten, Batch}
 use Rattle.start_journal.specs.declared.stage.Stage.{Stage}
@@ -14,7 +15,7 @@ use Rattle.start_journal.specs.Laws.{NumbersLiveOnce}
 use Rattle.start_journal.specs.Marks.{AreLegalMarks, AreLegalMarksAfter, IsLegalAfter, decides, is_end_of, is_forgetting, is_decided, is_ended, is_forgotten, has_mark_of, has_start_of, marks_of, is_mark_of, number_of_mark, is_start_of}
 use Rattle.start_journal.specs.Stages.{AreAllowedFrom, allows, stage_after, stage_by}
 use Rattle.start_journal.proofs.JournalLemmas.{legal_tested}
-use Rattle.start_journal.proofs.MarkLemmas.{and_false, decides_names, ends_names, forgets_names, forgotten_was_decided, or_false, or_true, starts_names}
+use Rattle.start_journal.proofs.MarkLemmas.{and_false, decides_names, ends_names, forgets_names, forgotten_was_decided, or_false, starts_names}
 
 -- a test over one more mark
 pub any_more : (test : Mark → Bool) (before : List Mark) (mark : Mark)

@@ -10,11 +10,12 @@ use Rattle.std.specs.Option.{option_or}
 use Rattle.std.specs.Ordering.{is_eq, nat_cmp}
 use Rattle.std.specs.declared.cmp.Ordering.TheVariants.{Less, Equal, Greater}
 use Rattle.std.specs.Slice.{IsItemAt}
-use Rattle.std.proofs.lemmas.Bool.{cases_lt, cases_order}
+use Rattle.std.proofs.lemmas.Bool.{cases_lt}
 use Rattle.std.proofs.lemmas.Bool.Decides.{eqb_tells}
 use Rattle.std.proofs.lemmas.List.Elements.{All-head, All-tail, filter_map-append}
 use Rattle.std.proofs.lemmas.Map.Keys.{sorted_head, sorted_tail}
 use Rattle.std.proofs.lemmas.Option.{slice_get_past, slice_get_read, unwrap_or-slice_get}
+use Rattle.host_calls.proofs.CommonLemmas.{at_number}
 use Rattle.start_journal.specs.declared.lifecycles.Lifecycle.{Lifecycle}
 use Rattle.start_journal.specs.Lifecycles.{decided_of, life_under, unknown}
 use Rattle.start_journal.specs.declared.life_map.LifeMap.TheInside.{Inside}
@@ -170,16 +171,6 @@ pub given_at : (given : Option (Bor Lifecycle)) (row : List Lifecycle) (place : 
 given_at None row place item = sym (slice_get_past row place item.3)
 given_at (Some life) row place item = sym (slice_get_read row (length row) place life.now refl item.3.0 item.1)
 
-at_tells : (number other : ℕ) → is_at (nat_cmp number) other ≡ (other == number)
-at_tells number other = elim (eqb_tells other number) [
-  | inl same ↦ at_same number other (sym same.1) ∙ sym same.0
-  | inr apart ↦ elim (cases_order number other) [
-    | inl same ↦ absurd (apart.1 (sym same))
-    | inr (inl below) ↦ not_at_above number other below ∙ sym apart.0
-    | inr (inr above) ↦ not_at_below number other above ∙ sym apart.0
-  ]
-]
-
 -- another number than the one that is put
 told_apart : (number other : ℕ) (life one two : Lifecycle) → ¬ (other ≡ number) → one ≡ two → one ≡ (if other == number then life else two)
 told_apart number other life one two apart same = elim (eqb_tells other number) [
@@ -202,7 +193,7 @@ told_below number first life old new row below olds news puts other = elim (case
   | inl low ↦
       ap (λ o. unwrap_or o unknown) (found_below other first new row low ∙ puts other)
       ∙ told_of (is_at (nat_cmp number) other) life (life_under old other)
-      ∙ ap (λ b. if b then life else unwrap_or (life_under old other) unknown) (at_tells number other)
+      ∙ ap (λ b. if b then life else unwrap_or (life_under old other) unknown) (at_number number other)
       ∙ ap (λ o. if other == number then life else unwrap_or o unknown) (sym (found_below other first old row low))
   | inr high ↦
       told_apart number other life _ _ (λ same. omega (arith, below, high, same))

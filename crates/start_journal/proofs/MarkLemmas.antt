@@ -12,10 +12,6 @@ use Rattle.start_journal.specs.Laws.{KeptMarksAreLegal, KeptMarksKeepWhatCounts}
 use Rattle.start_journal.specs.Marks.{AreLegalMarks, AreLegalMarksAfter, IsLegalAfter, batch_mark, batch_second, decides, is_end_of, first_of_two, is_forgetting, is_decided, is_forgotten, is_kept, is_open, is_remembered, kept_marks, last_batch, marks_of, is_mark_of, is_start_of}
 use Rattle.std.proofs.lemmas.Bool.{eqb-true, not-true, or_cases}
 
-pub or_true : (b : Bool) → (b || true) ≡ true
-or_true true = refl
-or_true false = refl
-
 pub or_false : (b : Bool) → (b || false) ≡ b
 or_false true = refl
 or_false false = refl

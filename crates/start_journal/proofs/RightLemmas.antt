@@ -12,11 +12,11 @@ use Rattle.start_journal.specs.SlotBytes.{HasSlotPrefix, is_number_prefix, is_se
 use Rattle.text_reader.specs.HexValues.{are_digits, are_zeros, is_digit, value_of_digits}
 use Rattle.std.proofs.lemmas.Bool.{and_from, and_parts, eqb-true}
 use Rattle.text_reader.proofs.TestLemmas.{one_passes}
-use Rattle.start_journal.proofs.MarkLemmas.{or_true}
 use Rattle.start_journal.proofs.StandLemmas.{after_place, from_place, if_true, same_stand, spelled_holds}
 use Rattle.text_reader.proofs.ValueLemmas.{value_last, some_power}
 use Rattle.start_journal.proofs.WholeLemmas.{parts_of, all_spelled, SpellsSome, AllStand}
 use Rattle.host_calls.specs.declared.clock_seconds.TheConstants.{LAST_SECOND}
+use Rattle.host_calls.proofs.CommonLemmas.{or_true}
 
 -- a allowed byte after the others
 next_byte : List ℕ → ℕ

@@ -2,7 +2,7 @@
 use Rattle.std.proofs.Common.{◌≡◌, ℕ, zero, suc, ◌+◌, ◌<◌, List, [], ◌∷◌, ◌++◌, length, take, replicate, get_or, sym, ap, subst, ◌∙◌, refl, arith, append_assoc}
 use Rattle.std.specs.List.{concat}
 use Rattle.std.proofs.lemmas.List.{append-nil, take_more}
-use Rattle.std.proofs.lemmas.List.Folds.{concat-append}
+use Rattle.host_calls.proofs.CommonLemmas.{concat_push}
 use Rattle.start_journal.specs.declared.mark.Mark.{Mark}
 use Rattle.start_journal.specs.Journals.{SpellMarks, SpellsJournal, free_slot}
 use Rattle.start_journal.specs.Slots.{SpellsMark}
@@ -19,16 +19,13 @@ spell_more [] (first ∷ later) slot mark spelled more = absurd spelled
 spell_more (first ∷ later) [] slot mark spelled more = absurd spelled
 spell_more (first ∷ later) (head ∷ rest) slot mark spelled more = (spelled.0, spell_more later rest slot mark spelled.1 more)
 
-one_more : (slots : List (List ℕ)) (slot : List ℕ) → concat (slots ++ slot ∷ []) ≡ concat slots ++ slot
-one_more slots slot = concat-append slots (slot ∷ []) ∙ ap (λ rest. concat slots ++ rest) (append-nil slot)
-
 pub mark_spelled : (text slot : List ℕ) (marks : List Mark) (mark : Mark) → SpellsJournal text marks 0 → SpellsMark slot mark
     → SpellsJournal (text ++ slot) (marks ++ mark ∷ []) 0
 mark_spelled text slot marks mark spelled more = record {
   slots = spelled.slots ++ slot ∷ [];
   spelled = spell_more spelled.slots marks slot mark spelled.spelled more;
   text = ap (λ list. list ++ slot) (spelled.text ∙ append-nil (concat spelled.slots))
-      ∙ sym (append-nil (concat (spelled.slots ++ slot ∷ [])) ∙ one_more spelled.slots slot);
+      ∙ sym (append-nil (concat (spelled.slots ++ slot ∷ [])) ∙ concat_push spelled.slots slot);
 }
 
 -- a copy more at the end

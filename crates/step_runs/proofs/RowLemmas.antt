@@ -7,13 +7,14 @@ use Rattle.std.specs.FinMap.Entries.{below_all, is_sorted}
 use Rattle.std.specs.List.{cons_option, filter_map}
 use Rattle.std.specs.Ordering.{nat_cmp}
 use Rattle.std.specs.declared.cmp.Ordering.TheVariants.{Less}
+use Rattle.host_calls.proofs.CommonLemmas.{first_of_both, second_of_both}
 use Rattle.spool_model.specs.declared.entry.Entry.TheVariants.{Live, Done}
 use Rattle.spool_model.specs.declared.job.Job.{Job}
 use Rattle.spool_model.specs.declared.row.Row.{Row}
 use Rattle.spool_model.specs.JobTable.{IsDone, JobEntry, JobTable, entry_at}
 use Rattle.spool_model.specs.Lists.{done_numbers, done_under, live_rows, row_under}
 use Rattle.queue_rules.specs.Order.{row_numbers}
-use Rattle.spool_shows.proofs.EntryLists.{below, has_key, left, right}
+use Rattle.spool_shows.proofs.EntryLists.{below, has_key}
 use Rattle.spool_shows.proofs.Membership.{Has, given_has, made_has}
 use Rattle.step_runs.proofs.ApartLemmas.{Apart}
 
@@ -24,9 +25,10 @@ entries_apart (first ∷ later) sorted = (
   λ has. (let made : (entry : ℕ × JobEntry) × Has later entry × (entry.0 ≡ first.0) =
       made_has (λ (entry : ℕ × JobEntry). entry.0) later first.0 has in
       let less : first.0 < made.0.0 = ranked first.0 made.0.0 Less
-      (sym (below nat_cmp first.0 later made.0 (left (below_all nat_cmp first.0 later) (is_sorted nat_cmp later) sorted) made.1)) in
+      (sym (below nat_cmp first.0 later made.0
+      (first_of_both (below_all nat_cmp first.0 later) (is_sorted nat_cmp later) sorted) made.1)) in
       omega (arith, less, made.2)),
-  entries_apart later (right (below_all nat_cmp first.0 later) (is_sorted nat_cmp later) sorted),
+  entries_apart later (second_of_both (below_all nat_cmp first.0 later) (is_sorted nat_cmp later) sorted),
 )
 
 -- and so do those of what is made of some of them

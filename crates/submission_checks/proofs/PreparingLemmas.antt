@@ -2,6 +2,7 @@
 use Rattle.std.proofs.Common.{◌≡◌, ◌<◌, ◌≤◌, ℕ, ℤ, pos, Bool, true, false, List, [], ◌∷◌, length, sym, ap, subst, ◌∙◌, refl, inl, inr, cond, lt-ltb, le-ltb, arith, FitsSigned, w64, to_z, of_z}
 use Rattle.std.proofs.lemmas.Int.{to_z-of_z}
 use Rattle.std.specs.Prelude.{Option, Some, None, Result, Ok, Err}
+use Rattle.std.proofs.lemmas.Bool.{false≢true}
 use Rattle.at_words.specs.declared.when.When.{When}
 use Rattle.civil_minute.specs.declared.zone.Zone.{Zone}
 use Rattle.host_calls.specs.ClockRange.{is_clock_second}
@@ -52,17 +53,14 @@ no_memory : (verdict : Option Refusal) → KeepsOrder verdict Memory
 no_memory None = tt
 no_memory (Some refusal) = inr (inl refl)
 
-no_true : false ≡ true → ⊥
-no_true is = cc
-
 module _ (readings_tell inputs_tell : Bool) (caller : Caller) (mail : Bool) (file : Option (List ℕ)) (when : When)
     (before after : Answers) (contents : Contents) where
   -- nothing was read
   finds_none : (found : Found) (reached : Check) → is_earlier_check of_zone reached ≡ false → is_earlier_check of_input reached ≡ false →
       FindsInput inputs_tell file when caller.zone contents reached found
   finds_none found reached zone input = record {
-    time = λ beyond. absurd (no_true (sym zone ∙ beyond));
-    commands = λ known beyond. absurd (no_true (sym input ∙ beyond));
+    time = λ beyond. absurd (false≢true (sym zone ∙ beyond));
+    commands = λ known beyond. absurd (false≢true (sym input ∙ beyond));
   }
 
   -- what the caller has was refused
@@ -184,7 +182,7 @@ module _ (readings_tell inputs_tell : Bool) (caller : Caller) (mail : Bool) (fil
               commands = [];
               reached = check_of refusal;
               clock = λ tells. known tells ∙ sym (ap (λ b. cond b (with_now now before) before) after_clock);
-              finds = record { time = λ beyond. meant; commands = λ tells beyond. absurd (no_true (sym before_input ∙ beyond)) };
+              finds = record { time = λ beyond. meant; commands = λ tells beyond. absurd (false≢true (sym before_input ∙ beyond)) };
               ends = record {
                 order = refused (first_refusal (submission_checks caller found)) refusal (from_time found refl);
                 up_to = refused_up_to (first_refusal (submission_checks caller found)) refusal (from_time found refl);
@@ -227,7 +225,7 @@ module _ (readings_tell inputs_tell : Bool) (caller : Caller) (mail : Bool) (fil
                 commands = [];
                 reached = of_input;
                 clock = known;
-                finds = record { time = λ beyond. meant; commands = λ tells beyond. absurd (no_true beyond) };
+                finds = record { time = λ beyond. meant; commands = λ tells beyond. absurd (false≢true beyond) };
                 ends = record {
                   order = rw (from_length found refl refl) tt;
                   up_to = allowed_up_to (first_refusal (submission_checks caller found)) of_input (from_length found refl refl);

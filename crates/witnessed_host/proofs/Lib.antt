@@ -1,2 +1,1 @@
 mod NothingLemmas
-mod Walks

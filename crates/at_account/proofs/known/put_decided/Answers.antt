@@ -1,6 +1,7 @@
 use Rattle.std.proofs.Common.{refl}
+use Rattle.host_calls.proofs.CommonLemmas.{one_at}
 use Rattle.at_account.specs.inside.KnownJobs.{decided_known}
-use Rattle.at_account.proofs.KnowingLemmas.{one_at, put_all, put_more}
+use Rattle.at_account.proofs.KnowingLemmas.{put_all, put_more}
 use Rattle.at_account.proofs.known.put_decided.Goals as goal
 
 pub loop-one-preserved : goal.loop-one-preserved

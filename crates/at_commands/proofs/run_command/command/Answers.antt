@@ -15,7 +15,8 @@ use Rattle.tool_output.specs.Causes.{words_cause}
 use Rattle.at_commands.specs.Tools.{tool_name_of}
 use Rattle.at_commands.proofs.AtdLemmas.{nothing_served, words_served}
 use Rattle.host_calls.proofs.WorldLemmas.{goes_on_none}
-use Rattle.at_commands.proofs.CommandLemmas.{left_same, outside_left, words_end, words_not_running, words_risen, read_never}
+use Rattle.host_calls.proofs.CommonLemmas.{same_session}
+use Rattle.at_commands.proofs.CommandLemmas.{outside_left, words_end, words_not_running, words_risen, read_never}
 use Rattle.at_commands.proofs.EndsLemmas.{ends_said}
 use Rattle.at_commands.proofs.ServedLemmas.{daemon_named, has_turns}
 use Rattle.at_commands.proofs.run_command.command.Goals as goal
@@ -32,7 +33,7 @@ serve_anew-requires-clause-turns g c =
 
 pub returns-in-Err-clause-session : goal.returns-in-Err-clause-session
 returns-in-Err-clause-session g c =
-    outside_left (g.H.Host.session c.args.host.now) _ (left_same (g.H.Host.session c.args.host.now) c.requires.outside)
+    outside_left (g.H.Host.session c.args.host.now) _ (same_session (g.H.Host.session c.args.host.now) c.requires.outside)
 
 pub returns-in-Err-clause-faults : goal.returns-in-Err-clause-faults
 returns-in-Err-clause-faults g c = rw c.of.ensures
@@ -44,7 +45,7 @@ returns-in-Err-clause-made g c =
 
 pub returns-in-Err-clause-ends : goal.returns-in-Err-clause-ends
 returns-in-Err-clause-ends g c = rw c.of.ensures (λ unserved. record {
-  left = left_same (g.H.Host.session c.args.host.now) c.requires.outside;
+  left = same_session (g.H.Host.session c.args.host.now) c.requires.outside;
   quiet = λ known. goes_on_none _ _ refl;
   not_running = words_not_running c.in-Err.fault c.say_cause.result (rw c.cause_of_words.ensures at c.say_cause.ensures.same_or_memory);
   readers = refl;

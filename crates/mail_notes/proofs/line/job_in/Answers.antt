@@ -1,8 +1,8 @@
 use Rattle.std.proofs.Common.{sym, subst}
+use Rattle.std.proofs.lemmas.Bool.{false≢true}
 use Rattle.spool_model.specs.Users.{IsUserName}
 use Rattle.mail_notes.specs.Lines.{IsJobFileName}
 use Rattle.mail_notes.proofs.LineLemmas.{parts_alike, parts_of}
-use Rattle.mail_notes.proofs.NameLemmas.{never}
 use Rattle.mail_notes.proofs.line.job_in.Goals as goal
 
 pub returns-in_err-parts-clause-none : goal.returns-in_err-parts-clause-none
@@ -23,4 +23,4 @@ returns-in_err-always-clause-none c = rw c.from_residual-in_err-always.ensures (
 pub returns-in_err-user-clause-none : goal.returns-in_err-user-clause-none
 returns-in_err-user-clause-none c = rw c.from_residual-in_err-user.ensures (λ job text.
     let same = parts_alike _ _ _ _ _ _ _ (parts_of c.args.number c.args.rest.now job text) c.in_ok-parts.ensures.some in
-    never (c.in_err-user.ensures.valid.1 (subst IsUserName same.2 text.of.user)))
+    false≢true (c.in_err-user.ensures.valid.1 (subst IsUserName same.2 text.of.user)))

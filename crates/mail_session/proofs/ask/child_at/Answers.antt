@@ -1,6 +1,6 @@
 use Rattle.std.proofs.Common.{refl}
-use Rattle.daemon_turn.proofs.AskLemmas.{at_place}
+use Rattle.host_calls.proofs.CommonLemmas.{one_at}
 use Rattle.mail_session.proofs.ask.child_at.Goals as goal
 
 pub returns : goal.returns
-returns c = record { kid = _; at = at_place c.args.kids.now c.args.place _ c.requires; is = refl }
+returns c = record { kid = _; at = one_at c.args.kids.now c.args.place _ c.requires; is = refl }

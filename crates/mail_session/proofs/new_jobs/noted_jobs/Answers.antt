@@ -1,10 +1,10 @@
 use Rattle.std.proofs.Common.{◌∙◌, arith, rules, subst, sym, take_all}
 use Rattle.host_calls.specs.World.{World, reading}
+use Rattle.host_calls.proofs.CommonLemmas.{one_at}
 use Rattle.step_runs.specs.Current.{IsCurrent}
 use Rattle.spool_store.specs.Listed.{IsLive}
 use Rattle.mail_notes.specs.Lines.{IsNotedJob}
 use Rattle.mail_session.specs.News.{IsNotedFrom}
-use Rattle.daemon_turn.proofs.AskLemmas.{at_place as item_at}
 use Rattle.mail_session.proofs.NewsLemmas.{number_more, one_more}
 use Rattle.mail_session.proofs.NoteNewsLemmas.{at_place}
 use Rattle.mail_session.proofs.new_jobs.noted_jobs.Goals as goal
@@ -12,7 +12,7 @@ use Rattle.mail_session.proofs.new_jobs.noted_jobs.Goals as goal
 pub noted_job-requires-clause-live : goal.noted_job-requires-clause-live
 noted_job-requires-clause-live g c =
     at_place (IsLive c.args.store.now.table) c.args.numbers.now c.loop-number.number-index _ c.loop-number-test.true
-    (item_at c.args.numbers.now c.loop-number.number-index _ c.loop-number-test.true) c.requires.live
+    (one_at c.args.numbers.now c.loop-number.number-index _ c.loop-number-test.true) c.requires.live
 
 pub noted_job-requires-clause-current : goal.noted_job-requires-clause-current
 noted_job-requires-clause-current g c = λ known.
@@ -26,7 +26,7 @@ loop-number-preserved g c = record {
   inside = search rules;
   looks = λ known. c.in_ok-job.ensures.looks known ∙ c.loop-number.invariant.looks known;
   numbers = number_more c.args.numbers.now c.loop-number.number-index _ c.loop-number.new_jobs.items c.keep_job.new.new_jobs.items
-      c.in_ok-job.job c.loop-number-test.true (item_at c.args.numbers.now c.loop-number.number-index _ c.loop-number-test.true)
+      c.in_ok-job.job c.loop-number-test.true (one_at c.args.numbers.now c.loop-number.number-index _ c.loop-number-test.true)
       c.loop-number.invariant.numbers c.in_ok-keep_job.ensures c.in_ok-job.ensures.number;
   can = one_more IsNotedJob c.loop-number.new_jobs.items c.keep_job.new.new_jobs.items c.in_ok-job.job c.loop-number.invariant.can
       c.in_ok-job.ensures.can c.in_ok-keep_job.ensures;

@@ -25,7 +25,7 @@ use denote.Triple.Entry.{alive}
 use denote.Triple.Spec.{Meets, triple_of}
 use denote.Triple.Table.{entered}
 use denote.Triple.Walked.{says, Stays, stay_dropped, walk_of, ends_at, walk_Meets, Goes-dropped}
-use Rattle.system_calls.proofs.Walks.{none, none_made}
+use Rattle.host_calls.proofs.Walks.{none, none_made}
 use Rattle.system_calls.specs.Calls.{recorded_call}
 use Rattle.system_calls.specs.contracts.call_trace.CallTrace as Log
 use Rattle.system_calls.specs.contracts.call.CallRecord as Put

@@ -23,7 +23,7 @@ use denote.Triple.Entry.{alive}
 use denote.Triple.Spec.{Meets, triple_of}
 use denote.Triple.Table.{entered}
 use denote.Triple.Walked.{says, Stays, walk_of, ends_at, walk_Meets}
-use Rattle.system_calls.proofs.Walks.{none, none_made}
+use Rattle.host_calls.proofs.Walks.{none, none_made}
 use Rattle.system_calls.specs.contracts.call_trace.CallTrace as Log
 use Rattle.system_calls.specs.contracts.call_trace.CallTrace.new as F
 use Rattle.system_calls.specs.contracts.call_trace.CallTrace.new.Key.{name as #self}

@@ -25,7 +25,7 @@ use denote.Triple.Entry.{alive}
 use denote.Triple.Spec.{Meets, triple_of}
 use denote.Triple.Table.{entered}
 use denote.Triple.Walked.{says, Stays, stay_dropped, walk_of, ends_at, walk_Meets, Goes-dropped}
-use Rattle.witnessed_host.proofs.Walks.{none, none_made}
+use Rattle.host_calls.proofs.Walks.{none, none_made}
 use Rattle.witnessed_host.specs.contracts.put_log.PutLog as Log
 use Rattle.witnessed_host.specs.contracts.put_log.Put as Put
 use Rattle.witnessed_host.specs.contracts.put_log.PutLog.and as F

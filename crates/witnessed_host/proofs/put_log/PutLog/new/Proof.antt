@@ -23,7 +23,7 @@ use denote.Triple.Entry.{alive}
 use denote.Triple.Spec.{Meets, triple_of}
 use denote.Triple.Table.{entered}
 use denote.Triple.Walked.{says, Stays, walk_of, ends_at, walk_Meets}
-use Rattle.witnessed_host.proofs.Walks.{none, none_made}
+use Rattle.host_calls.proofs.Walks.{none, none_made}
 use Rattle.witnessed_host.specs.contracts.put_log.PutLog as Log
 use Rattle.witnessed_host.specs.contracts.put_log.PutLog.new as F
 use Rattle.witnessed_host.specs.contracts.put_log.PutLog.new.Key.{name as #self}

@@ -30,7 +30,7 @@ use denote.Triple.Spec.{Meets, triple_of}
 use denote.Triple.Table.{entered}
 use denote.Triple.Walked.{says, Stays, stay_dropped, walk_of, ends_at, walk_Meets, Goes-dropped}
 use Rattle.std.specs.contracts.marker.PhantomData as Mark
-use Rattle.witnessed_host.proofs.Walks.{none, one, one_made}
+use Rattle.host_calls.proofs.Walks.{none, one, one_made}
 use Rattle.witnessed_host.specs.contracts.trace.Trace as Trace
 use Rattle.witnessed_host.specs.contracts.trace.Trace.and as F
 use Rattle.witnessed_host.specs.contracts.trace.Trace.and.Key.{name as #self}

@@ -28,7 +28,7 @@ use denote.Triple.Spec.{Meets, triple_of}
 use denote.Triple.Table.{entered}
 use denote.Triple.Walked.{says, Stays, walk_of, ends_at, walk_Meets}
 use Rattle.std.specs.contracts.marker.PhantomData as Mark
-use Rattle.witnessed_host.proofs.Walks.{none, one, one_made}
+use Rattle.host_calls.proofs.Walks.{none, one, one_made}
 use Rattle.witnessed_host.specs.contracts.trace.Trace as Trace
 use Rattle.witnessed_host.specs.contracts.trace.Trace.new as F
 use Rattle.witnessed_host.specs.contracts.trace.Trace.new.Key.{name as #self}
