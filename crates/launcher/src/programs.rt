@@ -31,6 +31,7 @@ use start_journal::journal_name;
 use std::alloc::{AllocError, Global};
 use std::path::Path;
 use system_calls::System;
+use terminal_hints::say_before_commands;
 use witnessed_host::{InputWitness, Witness};
 
 /// Does what the words of a tool request over its spool, next to these witnesses. The paths are those of the spool, where
@@ -60,7 +61,7 @@ pub fn run_tool_on<S: System, W: Witness + Drop, V: InputWitness + Drop>(
         });
     }
     let path = spool.path.as_str();
-    before_program(rt, system, tool, words, path)?;
+    before_program(rt, system, tool, words, invoker, path)?;
     let program = program_of(system, rt.alloc(), tool, words, mails, path)?;
     let clock = tool_clock(rt, tool, paths)?;
     let plan = SystemPlan {
@@ -75,18 +76,20 @@ pub fn run_tool_on<S: System, W: Witness + Drop, V: InputWitness + Drop>(
     })
 }
 
-// What comes before the program of a daemon: atcron warns of a mark that is ahead of the clock, and atpost waits for notices that
-// an earlier one has just started.
+// What comes before a program: a terminal is told when a job will run whose commands it is to type, atcron warns of a mark that
+// is ahead of the clock, and atpost waits for notices that an earlier one has just started.
 fn before_program<S: System>(
     rt: &HostRuntime,
     system: &mut S,
     tool: ToolName,
     words: &[String],
+    invoker: &Invoker,
     spool: &str,
 ) -> Result<(), AllocError>
     ensures { Continues (S.trace system.old) (S.trace system.new) }
 {
     match tool {
+        ToolName::At => say_before_commands(rt, tool, words, invoker)?,
         ToolName::Atcron => warn_of_mark(system, rt.alloc(), spool)?,
         ToolName::Atpost if is_daemon_run(tool, words) => await_young_notices(rt, system, spool),
         _ => {}

@@ -7,10 +7,8 @@ ghost use Rattle.listing_text.specs.declared.refusal.Refusal.TheVariants.{Usage}
 
 use crate::after_submission::after_submission;
 use crate::run_tool::run_tool;
-use crate::say_hint::say_hint;
 use crate::tool_end::{HowEnded, ToolEnd};
 use caller_environment::{ToolName, take_tool};
-use caller_rules::LISTS;
 use host_calls::{Host, Inputs, Readings, Sink};
 use listing_text::{Cause, Refusal};
 use memory_host::MemoryHost;
@@ -18,6 +16,7 @@ use process_input::{StartupError, process_words};
 use real_programs::{RealClock, RealDirectory, RealErrors, RealInput, RealOutput, Witnesses};
 use std::alloc::AllocError;
 use system_calls::{ProcessSystem, System, TracedSystem};
+use terminal_hints::{say_after_acceptance, say_hint};
 use witnessed_host::{InputWitness, Witness};
 
 /// Does what the words of this process request. Answers the exit status.
@@ -36,7 +35,7 @@ pub fn run_tool_by_name<W: Witness + Drop, V: InputWitness + Drop>(
     // It keeps the locks of a daemon until the end.
     let mut system = TracedSystem::new(ProcessSystem::new(*rt));
     let end = run_tool(rt, &mut system, tool, &mut words, witnesses)?;
-    follow(rt, &mut system, tool, &end)?;
+    follow(rt, &mut system, tool, &words, &end)?;
     Ok(end.run.exit.code)
 }
 
@@ -48,12 +47,13 @@ fn no_tool(rt: &HostRuntime) -> u8
     Cause::Refused(Refusal::Usage).code()
 }
 
-// What follows the end of a tool on its spool: a warning where no atd will run the job that was accepted, and a hint after a
-// refusal.
+// What follows the end of a tool on its spool: after a job was accepted what it waits for and lacks, and a warning where no
+// atd will run it; a hint after a refusal.
 fn follow<S: System, W: Witness + Drop, V: InputWitness + Drop>(
     rt: &HostRuntime,
     system: &mut S,
     tool: ToolName,
+    words: &[String],
     end: &ToolEnd<W, V>,
 ) -> Result<(), AllocError> {
     let (HowEnded::Launched(invoker, spool, submits), Some(cause)) = (&end.how, &end.run.exit.cause)
@@ -61,11 +61,18 @@ fn follow<S: System, W: Witness + Drop, V: InputWitness + Drop>(
         return Ok(());
     };
     if cause.is_done() && *submits {
+        say_after_acceptance(system, rt.alloc(), tool)?;
         after_submission(system, rt.alloc(), tool, &invoker.user, spool)?;
     }
-    let lists = match &end.run.system {
-        None => LISTS,
-        Some(_) => spool.path.as_str(),
-    };
-    say_hint(rt, system, tool, cause, &invoker.user, spool, lists)
+    let has_run = end.run.system.is_some();
+    say_hint(
+        rt,
+        system,
+        tool,
+        words,
+        cause,
+        &invoker.user,
+        spool,
+        has_run,
+    )
 }

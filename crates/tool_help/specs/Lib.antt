@@ -1,5 +1,9 @@
+pub mod CommandsTexts
 pub mod Help
 pub mod Hints
 pub mod HintTexts
 pub mod SpoolHints
+pub mod TimeAdvice
+pub mod TimeHints
+pub mod TimeParts
 pub mod Version

@@ -9,7 +9,9 @@ const BAD_ZONE: &str =
     "TZ is to be a zone such as Europe/Berlin, a rule such as CET-1CEST,M3.5.0,M10.5.0/3, or unset";
 
 const BAD_DIRECTORY: &str =
-    "the directory in which you are is gone, or its name is too long: cd to another";
+    "the directory in which you are is gone, or its name is too long or not UTF-8: cd to another";
+
+const SAVING: &str = "atcheck lists the faults, atsalvage saves the rest: see DAMAGE in atjobs(5)";
 
 /// What to do after a tool ended so.
 #[derive(Clone, Copy, Debug, PartialEq, Eq)]
@@ -22,6 +24,12 @@ pub enum Hint {
     Spool,
     /// See who holds the lock of the spool (see `lock_hint`).
     Lock,
+    /// Write the part of the time at this byte otherwise (see `time_hint`).
+    Time(u64),
+    /// See which jobs there are (see `jobs_hint`).
+    Jobs,
+    /// Give commands that can be read (see `input_hint`).
+    Input,
     /// What this text says.
     Text(&'static str),
 }
@@ -34,15 +42,15 @@ pub fn hint_of(cause: &Cause) -> Option<Hint>
         Cause::Done => None,
         Cause::Refused(refusal) => Some(hint_of_refusal(refusal)),
         Cause::FileFault => Some(Hint::Spool),
-        Cause::InputFault => Some(Hint::Text("can the file of the commands be read?")),
+        Cause::InputFault => Some(Hint::Input),
         Cause::OutputFault => Some(Hint::Text("what was asked for is done; its lines were lost")),
         Cause::Busy => Some(Hint::Lock),
         Cause::Memory => Some(Hint::Text("atq tells whether it was done")),
-        Cause::Damaged(_) => Some(Hint::Text(
-            "see DAMAGE in atjobs(5); nothing is changed until that is mended",
+        Cause::Damaged(_) => Some(Hint::Text(SAVING)),
+        Cause::StillRunning => Some(Hint::Text("give more with --turns")),
+        Cause::Faulty => Some(Hint::Text(
+            "atsalvage saves what is not damaged: see DAMAGE in atjobs(5)",
         )),
-        Cause::StillRunning => Some(Hint::Text("more turns wait for them: see --turns")),
-        Cause::Faulty => Some(Hint::Text("see DAMAGE in atjobs(5)")),
     }
 }
 
@@ -53,9 +61,8 @@ fn hint_of_refusal(refusal: &Refusal) -> Hint
     match refusal {
         Refusal::Usage => Hint::Help,
         Refusal::NotAllowed => Hint::Lists,
-        Refusal::Timespec { .. } | Refusal::NoSuchDay => {
-            Hint::Text("a time is such as: now + 2 hours, 8:15 tomorrow, noon jan 24, teatime fri")
-        }
+        Refusal::Timespec { place } => Hint::Time(*place),
+        Refusal::NoSuchDay => Hint::Text("the month has no such day in that year: give another"),
         Refusal::Past | Refusal::OutOfRange => Hint::Text(
             "give a time from now on, and before the year 9999",
         ),
@@ -72,7 +79,7 @@ fn hint_of_refusal(refusal: &Refusal) -> Hint
         Refusal::EnvironmentTooLarge => Hint::Text("submit with fewer variables, as by env -i"),
         Refusal::QueueFull => Hint::Text("10,000 jobs wait or run: take some back by atrm"),
         Refusal::NumbersUsedUp => Hint::Text("begin another spool: see atjobs(5)"),
-        Refusal::NoSuchJob(_) => Hint::Text("atq lists the jobs there are"),
+        Refusal::NoSuchJob(_) => Hint::Jobs,
         Refusal::NotYours(_) => Hint::Text("atq lists yours"),
         Refusal::RunningJob(_) => Hint::Text(
             "a job that has started can only be ended, as by kill",

@@ -18,20 +18,20 @@ $spool|UTC|at </dev/null|at: usage|at --help
 $spool|UTC|atq 1|atq: usage|atq --help
 $spool|UTC|atstat --turns 2|atstat: usage|atstat --help
 $spool|UTC|atcheck x y z|atcheck: usage|atcheck --help
-$spool|UTC|at 830 </dev/null|at: bad time at byte 0|8:15 tomorrow
-$spool|UTC|at noon feb 30 </dev/null|at: no such day|8:15 tomorrow
+$spool|UTC|at noon feb 30 </dev/null|at: no such day|give another
 $spool|UTC|at -t 202001010000 </dev/null|at: time is past|from now on
 $spool|UTC|at now + 9000 years </dev/null|at: time out of range|9999
 $spool|UTC|at -t 1 </dev/null|at: bad -t time|[[CC]YY]MMDDhhmm[.SS]
 $spool|Mars/Base|at now </dev/null|at: bad TZ|Europe/Berlin
 $spool|UTC|at -q ab now </dev/null|at: bad queue|one letter
-$spool|UTC|at -f $PWD/none now|at: input fault|the file of the commands
+$spool|UTC|at -f $PWD/none now|at: input fault|$PWD/none is absent
+$spool|UTC|at now <&-|at: input fault|standard input
 $spool|UTC|atrm 7|atrm: no such job 7|atq
 $spool|UTC|atstat -w 7|atstat: no such job 7|atq
 $spool|UTC|atcheck $PWD/empty $PWD/used --salvage|atcheck: target not empty|a directory
 $PWD/full|UTC|ataccount|ataccount: accounts full|ataccount(8)
 $PWD/used|UTC|at -t 203001010000 </dev/null|at: job numbers used up|atjobs(5)
-$PWD/damaged|UTC|atq|atq: .SEQ damaged at 1|atjobs(5)
+$PWD/damaged|UTC|atq|atq: .SEQ damaged at 1|atcheck lists the faults, atsalvage saves the rest
 $spool|UTC|atcron -f $PWD/table --turns 1|atcron: bad crontab at line 1|coefhird-crontab(5)
 $PWD/none/spool|UTC|at now </dev/null|at: spool fault|$PWD/none is not there
 $PWD/file|UTC|at now </dev/null|at: spool fault|$PWD/file is no
@@ -41,7 +41,7 @@ END
   typed "A=\$(head -c 90000 /dev/zero | tr '\\0' x) B=\$A C=\$A; export A B C; exec $door/at now </dev/null"; hinted 'at: environment too large' 'env -i'
   typed "mkdir gone; cd gone; rmdir ../gone; exec $door/at now </dev/null"; hinted 'at: bad directory' 'cd to another'
   typed "echo true | $door/at now 2>/dev/null; exec $door/atq >/dev/full"; hinted 'atq: output fault' 'lines were lost'
-  typed "$door/atcheck $PWD/damaged >/dev/null"; hinted 'atcheck: spool has faults' 'atjobs(5)'
+  typed "$door/atcheck $PWD/damaged >/dev/null"; hinted 'atcheck: spool has faults' 'atsalvage'
   # Where nothing is refused it adds no line, and neither does it where standard error is no terminal.
   typed "$door/atq"; [ "$(wc -l <said)" = 1 ] && grep -q " a $me\$" said || fail "it says: $(cat said)"
   knock atrm 7; refused 1 'atrm: no such job 7'
@@ -56,7 +56,7 @@ case_door_hints_of_jobs() {
   trap 'kill $! 2>/dev/null; : >go' EXIT
   awaits begun
   typed "$door/atrm 1"; hinted 'atrm: job 1 is running' 'kill'
-  typed "$door/atd -s"; hinted 'atd: spool busy' 'fuser'
+  typed "$door/atd -s"; hinted 'atd: spool busy' "an atd runs for $spool already"
   : >go
   filled 10000 many
   extra=(ATSPOOL="$spool" TZ=UTC)

@@ -1,6 +1,6 @@
 use Rattle.std.proofs.Common.{OnOk}
 use Rattle.system_calls.specs.Calls.{Continues}
-use Rattle.launcher.proofs.spool_trouble.trouble_above.Given as goal
+use Rattle.terminal_hints.proofs.spool_trouble.trouble_above.Given as goal
 
 abbrev pub invariant-loop-path : goal.invariant-loop-path
 invariant-loop-path g l =

@@ -1,0 +1,38 @@
+//! What a terminal is told before the commands of a job are read from it.
+use crate::run_date::run_date;
+use crate::typed_submission::typed_submission;
+use caller_environment::ToolName;
+use process_input::Invoker;
+use real_programs::real_clock;
+use std::alloc::AllocError;
+use std::io::IsTerminal;
+use std::str;
+use tool_help::begin_text;
+
+/// Where standard input and standard error are terminals, and the commands of a job of `at` will be read from there: says
+/// when the job will run by the clock of this moment, and how the commands end. Where a check refuses the time it says
+/// nothing.
+pub fn say_before_commands(
+    rt: &HostRuntime,
+    tool: ToolName,
+    words: &[String],
+    invoker: &Invoker,
+) -> Result<(), AllocError> {
+    if tool != ToolName::At || !rt.stdin().is_terminal() || !rt.stderr().is_terminal() {
+        return Ok(());
+    }
+    let Some(typed) = typed_submission(rt.alloc(), words) else {
+        return Ok(());
+    };
+    if typed.file.is_some() {
+        return Ok(());
+    }
+    let mut clock = real_clock(rt)?;
+    if let Some(date) = run_date(rt.alloc(), &invoker.caller, &typed.when, &mut clock)? {
+        let line = begin_text(rt.alloc(), tool, &date)?;
+        if let Ok(line) = str::from_utf8(line.as_slice()) {
+            let _ = rt.eprint(line);
+        }
+    }
+    Ok(())
+}
