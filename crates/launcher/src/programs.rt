@@ -31,7 +31,7 @@ use start_journal::journal_name;
 use std::alloc::{AllocError, Global};
 use std::path::Path;
 use system_calls::System;
-use terminal_hints::say_before_commands;
+use terminal_hints::{say_account_heads, say_before_commands};
 use witnessed_host::{InputWitness, Witness};
 
 /// Does what the words of a tool request over its spool, next to these witnesses. The paths are those of the spool, where
@@ -76,8 +76,9 @@ pub fn run_tool_on<S: System, W: Witness + Drop, V: InputWitness + Drop>(
     })
 }
 
-// What comes before a program: a terminal is told when a job will run whose commands it is to type, atcron warns of a mark that
-// is ahead of the clock, and atpost waits for notices that an earlier one has just started.
+// What comes before a program: a terminal is told when a job will run whose commands are typed, and what the columns of
+// accounts are; atcron warns of a mark that is ahead of the clock; and atpost waits for notices that an earlier one has just
+// started.
 fn before_program<S: System>(
     rt: &HostRuntime,
     system: &mut S,
@@ -90,6 +91,7 @@ fn before_program<S: System>(
 {
     match tool {
         ToolName::At => say_before_commands(rt, tool, words, invoker)?,
+        ToolName::Ataccount => say_account_heads(rt, words),
         ToolName::Atcron => warn_of_mark(system, rt.alloc(), spool)?,
         ToolName::Atpost if is_daemon_run(tool, words) => await_young_notices(rt, system, spool),
         _ => {}

@@ -1,3 +1,4 @@
+pub mod AccountHeads
 pub mod LeftOut
 pub mod RunDates
 pub mod TypedSubmissions

@@ -43,7 +43,7 @@ fn left_out<S: System>(system: &mut S) -> usize
     }
 }
 
-fn say<S: System>(
+fn say_line<S: System>(
     system: &mut S,
     alloc: Global,
     tool: ToolName,

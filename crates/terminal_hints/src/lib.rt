@@ -12,7 +12,7 @@ mod spool_trouble;
 mod typed_submission;
 
 pub use after_acceptance::say_after_acceptance;
-pub use before_commands::say_before_commands;
+pub use before_commands::{say_account_heads, say_before_commands};
 pub use left_out::left_out_in;
 pub use run_date::run_date;
 pub use say_hint::say_hint;

@@ -10,6 +10,10 @@ use std::alloc::{AllocError, Global};
 pub const LOAD_TEXT: &str =
     "the job starts once the load of the last minute is below 1.50, or the limit that atd -l names";
 
+/// What the columns of a user's and queue's line of `ataccount --show` are: seven counts of jobs.
+pub const ACCOUNT_HEADS: &str =
+    "user queue seen started finished not-started interrupted removed lost\n";
+
 /// The line before the commands of a job are read, which will run at this date.
 pub fn begin_text(alloc: Global, tool: ToolName, date: &[u8]) -> Result<Bytes, AllocError>
     ensures { IfOk result (λ line. line ≡ begin_text_of tool date.now) }

@@ -11,7 +11,7 @@ mod time_advice;
 mod time_part;
 mod version;
 
-pub use before_commands::{LOAD_TEXT, begin_text, left_out_text};
+pub use before_commands::{ACCOUNT_HEADS, LOAD_TEXT, begin_text, left_out_text};
 pub use help::help_text;
 pub use hint::{Hint, hint_of};
 pub use hint_texts::{
