@@ -2,7 +2,7 @@
 use Rattle.std.specs.Prelude.{◌≡◌, ℕ, Bool, List, Ok}
 use Rattle.at_words.specs.Requests.{request_of}
 use Rattle.at_words.specs.declared.tool_request.ToolRequest.TheVariants as request
-use Rattle.terminal_hints.specs.declared.typed_submission.TypedSubmission.{TypedSubmission}
+use Rattle.terminal_hints.specs.declared.typed.TypedSubmission.{TypedSubmission}
 
 -- the words request the submission of a job with this file and this time
 pub record IsTypedSubmission (words : List (List ℕ)) (typed : TypedSubmission) : Type 0 where

@@ -3,8 +3,8 @@
 ghost use Rattle.std.specs.Prelude.{◌≡◌, map, string_bytes};
 ghost use Rattle.terminal_hints.specs.AccountHeads.{lists_accounts};
 
-use crate::run_date::run_date;
-use crate::typed_submission::typed_submission;
+use crate::dates::run_date;
+use crate::typed::typed_submission;
 use caller_environment::ToolName;
 use process_input::Invoker;
 use real_programs::real_clock;

@@ -4,16 +4,16 @@
 
 mod after_acceptance;
 mod before_commands;
+mod dates;
 mod disk_probe;
+mod hints;
 mod left_out;
-mod run_date;
-mod say_hint;
 mod spool_trouble;
-mod typed_submission;
+mod typed;
 
 pub use after_acceptance::say_after_acceptance;
 pub use before_commands::{say_account_heads, say_before_commands};
+pub use dates::run_date;
+pub use hints::say_hint;
 pub use left_out::left_out_in;
-pub use run_date::run_date;
-pub use say_hint::say_hint;
-pub use typed_submission::{TypedSubmission, typed_submission};
+pub use typed::{TypedSubmission, typed_submission};

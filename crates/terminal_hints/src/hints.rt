@@ -3,13 +3,12 @@ ghost use Rattle.std.specs.Prelude.{OnOk};
 ghost use Rattle.system_calls.specs.Calls.{Continues};
 
 use crate::spool_trouble::trouble_of;
-use crate::typed_submission::typed_submission;
+use crate::typed::typed_submission;
 use at_words::When;
 use caller_environment::ToolName;
 use caller_rules::{CallingUser, LISTS, ToolSpool, last_value, lock_name, path_within, paths_of};
 use listing_text::Cause;
 use std::alloc::{AllocError, Global};
-use std::str;
 use system_calls::System;
 use tool_help::{
     Hint, ListsFound, access_hint, daemon_hint, help_hint, hint_line, hint_of, input_hint,
