@@ -23,12 +23,12 @@ pub fn say_after_acceptance<S: System>(
         return Ok(());
     }
     if tool == ToolName::Batch {
-        say_line(system, alloc, tool, LOAD_TEXT)?;
+        say_accepted_line(system, alloc, tool, LOAD_TEXT)?;
     }
     let count = left_out(system);
     if count > 0 {
         let text = left_out_text(alloc, count as u64)?;
-        say_line(system, alloc, tool, text.as_str())?;
+        say_accepted_line(system, alloc, tool, text.as_str())?;
     }
     Ok(())
 }
@@ -43,7 +43,7 @@ fn left_out<S: System>(system: &mut S) -> usize
     }
 }
 
-fn say_line<S: System>(
+fn say_accepted_line<S: System>(
     system: &mut S,
     alloc: Global,
     tool: ToolName,
