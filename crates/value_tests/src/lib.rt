@@ -1,4 +1,4 @@
-//! Tests of the table, queues, lists, minutes, lines and words.
+//! Tests of the table, queues, lists, minutes, lines and words, as they are typed too.
 #![tactic(auto)]
 
 #[cfg(test)]
@@ -13,5 +13,7 @@ mod plain;
 mod queues;
 #[cfg(test)]
 mod table;
+#[cfg(test)]
+mod typed;
 #[cfg(test)]
 mod words;

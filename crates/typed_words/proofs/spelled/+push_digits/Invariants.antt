@@ -1,0 +1,4 @@
+use Rattle.typed_words.proofs.spelled.+push_digits.Given as goal
+
+abbrev pub decreases-push_digits : goal.decreases-push_digits
+decreases-push_digits l = l.digits

@@ -1,0 +1,10 @@
+pub mod Accepted
+pub mod Calls
+pub mod Dates
+pub mod Letters
+pub mod Options
+pub mod Settings
+pub mod Spelled
+pub mod Times
+pub mod Tomorrow
+pub mod inside
