@@ -44,10 +44,10 @@ _coefhird_at() {
         -t) return ;;
     esac
     for word in "${COMP_WORDS[@]:1:COMP_CWORD-1}"; do
-        case $word in -c | -l | -r) jobs=1 ;; esac
+        case $word in -c | -d | -l | -r) jobs=1 ;; esac
     done
     if [[ $current == -* ]]; then
-        mapfile -t COMPREPLY < <(compgen -W "-c -f -l -m -q -r -t $(_coefhird_alone --spool)" -- "$current")
+        mapfile -t COMPREPLY < <(compgen -W "-b -c -d -f -l -m -M -q -r -t -v -V $(_coefhird_alone --spool)" -- "$current")
     elif [[ $jobs ]]; then
         mapfile -t COMPREPLY < <(compgen -W "$(_coefhird_jobs)" -- "$current")
     else
@@ -69,7 +69,7 @@ _coefhird_atq() {
     COMPREPLY=()
     case ${COMP_WORDS[COMP_CWORD-1]} in
         -q) mapfile -t COMPREPLY < <(compgen -W "$(_coefhird_queues) =" -- "$current") ;;
-        *) mapfile -t COMPREPLY < <(compgen -W "-q $(_coefhird_alone)" -- "$current") ;;
+        *) mapfile -t COMPREPLY < <(compgen -W "-q -V $(_coefhird_jobs) $(_coefhird_alone)" -- "$current") ;;
     esac
 }
 
@@ -90,7 +90,7 @@ _coefhird_atd() {
     COMPREPLY=()
     case ${COMP_WORDS[COMP_CWORD-1]} in
         -b | -l | --turns) ;;
-        *) mapfile -t COMPREPLY < <(compgen -W "-b -l -s --turns $(_coefhird_alone)" -- "${COMP_WORDS[COMP_CWORD]}") ;;
+        *) mapfile -t COMPREPLY < <(compgen -W "-b -f -l -s -V --turns $(_coefhird_alone)" -- "${COMP_WORDS[COMP_CWORD]}") ;;
     esac
 }
 

@@ -44,7 +44,7 @@ for tool in at batch atq atrm atstat atd atday ataccount atpost atcron atcrontab
 end
 complete -c at -n 'test (count (commandline -opc)) = 1' -l spool -d 'print the spool directory'
 
-set -l of_jobs '__fish_contains_opt -s c -s l -s r'
+set -l of_jobs '__fish_contains_opt -s c -s d -s l -s r'
 set -l words now noon midnight teatime today tomorrow next utc am pm \
     minutes hours days weeks months years \
     monday tuesday wednesday thursday friday saturday sunday \
@@ -60,6 +60,11 @@ complete -c at -s m -d 'ask for mail at the end'
 complete -c at -s q -x -a '(__coefhird_queues)' -d 'the queue'
 complete -c at -s r -d 'take jobs back'
 complete -c at -s t -x -d 'the time, as CCYYMMDDhhmm.SS'
+complete -c at -s b -d 'as batch'
+complete -c at -s d -d 'as -r'
+complete -c at -s M -d 'nothing'
+complete -c at -s v -d 'nothing'
+complete -c at -s V -d 'as --version'
 complete -c at -n "$of_jobs" -a '(__coefhird_jobs)'
 complete -c at -n "not $of_jobs; and __coefhird_time words" -a "$words"
 complete -c at -n "not $of_jobs; and __coefhird_time units" -a "$units"
@@ -70,6 +75,7 @@ complete -c batch -s f -r -F -d 'read the commands from a file'
 
 complete -c atq -f
 complete -c atq -s q -x -a '(__coefhird_queues)' -d 'show this queue alone'
+complete -c atq -a '(__coefhird_jobs)'
 
 complete -c atrm -f -a '(__coefhird_jobs)'
 
@@ -81,6 +87,7 @@ complete -c atstat -s w -d 'wait until the jobs have finished'
 
 complete -c atd -f
 complete -c atd -s b -x -d 'seconds between two starts in batch queues'
+complete -c atd -s f -d 'nothing'
 complete -c atd -s l -x -d 'the load from which on no batch job starts'
 complete -c atd -s s -d 'make one turn, and end when the children have ended'
 complete -c atd -l turns -x -d 'make so many turns and end'

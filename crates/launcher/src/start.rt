@@ -1,6 +1,6 @@
 //! What the program does by the words of its process.
-ghost use Rattle.std.specs.Prelude.{◌≡◌, IfOk};
-ghost use Rattle.launcher.specs.NamedRuns.{IsRunByName};
+ghost use Rattle.std.specs.Prelude.{◌≡◌, IfOk, map, string_bytes};
+ghost use Rattle.launcher.specs.NamedRuns.{AreCallsEnded, IsCallEnd, IsRunByName, first_failure};
 ghost use Rattle.listing_text.specs.Cause.{code_of};
 ghost use Rattle.listing_text.specs.declared.cause.Cause.TheVariants.{Refused};
 ghost use Rattle.listing_text.specs.declared.refusal.Refusal.TheVariants.{Usage};
@@ -18,14 +18,17 @@ use process_input::{StartupError, process_words};
 use real_programs::{RealClock, RealDirectory, RealErrors, RealInput, RealOutput, Witnesses};
 use std::alloc::AllocError;
 use system_calls::{ProcessSystem, System, TracedSystem};
+use typed_words::callers_calls;
 use witnessed_host::{InputWitness, Witness};
 
-/// Does what the words of this process request. Answers the exit status.
-pub fn run_tool_by_name<W: Witness + Drop, V: InputWitness + Drop>(
+/// Does what the words of this process request, as they are typed: each call that they make, one after another. Answers the
+/// exit status: the first that isn't 0.
+pub fn run_tool_by_name<W: Witness + Drop + Copy, V: InputWitness + Drop + Copy>(
     rt: &HostRuntime,
     witnesses: Witnesses<W, V>,
 ) -> Result<u8, StartupError>
-    /// The tool that the words of the process name ends by its words, and the exit status is that of its end.
+    /// The tools of the calls that the words of the process make end by their words, and the exit status is that of the first
+    /// that failed.
     ensures { IfOk result (IsRunByName ⟦<RealDirectory<W> as Host>⟧ ⟦<MemoryHost as Host>⟧
         ⟦<RealClock as Readings>⟧ ⟦<RealInput<V> as Inputs>⟧ ⟦<RealOutput as Sink>⟧ ⟦<RealErrors as Sink>⟧ witnesses) }
 {
@@ -35,8 +38,62 @@ pub fn run_tool_by_name<W: Witness + Drop, V: InputWitness + Drop>(
     };
     // It keeps the locks of a daemon until the end.
     let mut system = TracedSystem::new(ProcessSystem::new(*rt));
-    let end = run_tool(rt, &mut system, tool, &mut words, witnesses)?;
-    follow(rt, &mut system, tool, &end)?;
+    let calls = callers_calls(&mut system, rt.alloc(), tool, words)?;
+    Ok(run_calls(rt, &mut system, calls, witnesses)?)
+}
+
+// Runs the calls, one after another. Answers the first exit status that isn't 0.
+fn run_calls<S: System, W: Witness + Drop + Copy, V: InputWitness + Drop + Copy>(
+    rt: &HostRuntime,
+    system: &mut S,
+    mut calls: Vec<Vec<String>>,
+    witnesses: Witnesses<W, V>,
+) -> Result<u8, AllocError>
+    ensures { IfOk result (AreCallsEnded ⟦<RealDirectory<W> as Host>⟧ ⟦<MemoryHost as Host>⟧
+        ⟦<RealClock as Readings>⟧ ⟦<RealInput<V> as Inputs>⟧ ⟦<RealOutput as Sink>⟧ ⟦<RealErrors as Sink>⟧
+        witnesses (map (λ call. map string_bytes call.items) calls.items) (S.trace system.old)) }
+{
+    if calls.is_empty() {
+        return Ok(0);
+    }
+    let call = calls.remove(0);
+    let code = run_call(rt, system, call, copied_witnesses(&witnesses))?;
+    let later = run_calls(rt, system, calls, witnesses)?;
+    Ok(first_failure(code, later))
+}
+
+fn first_failure(code: u8, later: u8) -> u8
+    ensures { result ≡ first_failure code later }
+{
+    if code == 0 { later } else { code }
+}
+
+fn copied_witnesses<W: Copy, V: Copy>(witnesses: &Witnesses<W, V>) -> Witnesses<W, V>
+    ensures { result ≡ witnesses.now }
+{
+    Witnesses {
+        directory: witnesses.directory,
+        target: witnesses.target,
+        input: witnesses.input,
+    }
+}
+
+// Runs the tool that the words of a call name, and says what follows. Answers its exit status.
+fn run_call<S: System, W: Witness + Drop, V: InputWitness + Drop>(
+    rt: &HostRuntime,
+    system: &mut S,
+    mut words: Vec<String>,
+    witnesses: Witnesses<W, V>,
+) -> Result<u8, AllocError>
+    ensures { IfOk result (IsCallEnd ⟦<RealDirectory<W> as Host>⟧ ⟦<MemoryHost as Host>⟧
+        ⟦<RealClock as Readings>⟧ ⟦<RealInput<V> as Inputs>⟧ ⟦<RealOutput as Sink>⟧ ⟦<RealErrors as Sink>⟧
+        witnesses (map string_bytes words.items) (S.trace system.old)) }
+{
+    let Some(tool) = take_tool(&mut words) else {
+        return Ok(no_tool(rt));
+    };
+    let end = run_tool(rt, system, tool, &mut words, witnesses)?;
+    follow(rt, system, tool, &end)?;
     Ok(end.run.exit.code)
 }
 

@@ -9,13 +9,14 @@ help_of_at =
     codes "at [-m] [-f FILE] [-q QUEUE] TIMESPEC...\nat [-m] [-f FILE] [-q QUEUE] -t [[CC]YY]MMDDhhmm[.SS]\n"
     ++ codes "at -l [-q QUEUE | JOB...]\nat -c JOB...\nat -r JOB...\n"
     ++ codes "Stores commands from standard input or FILE as a job that atd runs once, as in: echo make | at now + 2 hours\n"
+    ++ codes "Takes -M, -v, -d JOB, -b and -V of Debian's at too, and with AT_TIMES=debian its times, as in: at tomorrow\n"
     ++ codes "man 1 at\n"
 
 -- the lines of a tool
 abbrev pub help_of : ToolName → List ℕ
 help_of At = help_of_at
 help_of Batch = codes "batch [-f FILE]\nStores commands as a job that starts when the load allows it.\nman 1 batch\n"
-help_of Atq = codes "atq [-q QUEUE]\nLists jobs: number, time, queue (= where it runs) and user.\nman 1 atq\n"
+help_of Atq = codes "atq [-q QUEUE | JOB...]\nLists jobs: number, time, queue (= where it runs) and user.\nman 1 atq\n"
 help_of Atrm = codes "atrm JOB...\nTakes back jobs that have not started.\nman 1 atrm\n"
 help_of Atd = codes "atd [-s] [-l LIMIT] [-b INTERVAL] [--turns COUNT]\nRuns the jobs of at and batch.\nman 8 atd\n"
 help_of Atday = codes "atday --make COUNT\nTries so many commands, turns and crashes in memory.\nman 1 atday\n"

@@ -8,6 +8,7 @@ const AT: &str = "at [-m] [-f FILE] [-q QUEUE] TIMESPEC...\n\
     at [-m] [-f FILE] [-q QUEUE] -t [[CC]YY]MMDDhhmm[.SS]\n\
     at -l [-q QUEUE | JOB...]\nat -c JOB...\nat -r JOB...\n\
     Stores commands from standard input or FILE as a job that atd runs once, as in: echo make | at now + 2 hours\n\
+    Takes -M, -v, -d JOB, -b and -V of Debian's at too, and with AT_TIMES=debian its times, as in: at tomorrow\n\
     man 1 at\n";
 
 const ATCRON: &str = "atcron [FOLDER] -f FILE [--turns COUNT]\natcron --next COUNT -f FILE\n\
@@ -23,7 +24,7 @@ pub fn help_text(tool: ToolName) -> &'static str
         ToolName::Batch =>
             "batch [-f FILE]\nStores commands as a job that starts when the load allows it.\nman 1 batch\n",
         ToolName::Atq =>
-            "atq [-q QUEUE]\nLists jobs: number, time, queue (= where it runs) and user.\nman 1 atq\n",
+            "atq [-q QUEUE | JOB...]\nLists jobs: number, time, queue (= where it runs) and user.\nman 1 atq\n",
         ToolName::Atrm => "atrm JOB...\nTakes back jobs that have not started.\nman 1 atrm\n",
         ToolName::Atd =>
             "atd [-s] [-l LIMIT] [-b INTERVAL] [--turns COUNT]\nRuns the jobs of at and batch.\nman 8 atd\n",

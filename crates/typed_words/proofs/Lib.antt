@@ -1,1 +1,2 @@
-
+mod TimeLaws
+mod TypedLaws

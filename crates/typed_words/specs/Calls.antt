@@ -1,5 +1,5 @@
 -- The calls that typed words make (Debian's at(1), atq(1) and atd(8), 3.2.5; which words it takes so is this project's own).
-use Rattle.std.specs.Prelude.{◌≡◌, ◌&&◌, ◌++◌, ◌↔◌, [], ◌∷◌, ℕ, Bool, true, false, not, List, Option, Some, None, Result, Ok, All, IsTrue, codes, length, nat_le, map, if◌then◌else◌}
+use Rattle.std.specs.Prelude.{◌≡◌, ◌&&◌, ◌++◌, ◌↔◌, [], ◌∷◌, ℕ, Bool, true, false, not, List, Option, Some, None, Result, Ok, IsTrue, codes, length, nat_le, map, if◌then◌else◌}
 use Rattle.std.specs.List.{list_all}
 use Rattle.std.specs.Char.{is_ascii_digit}
 use Rattle.at_words.specs.Requests.{request_of}
@@ -80,15 +80,25 @@ abbrev pub IsTiming : ToolName → List (List ℕ) → Option (List (List ℕ)) 
 IsTiming tool words (Some other) = IsTimed tool words other
 IsTiming tool words None = (other : List (List ℕ)) → ¬ IsTimed tool words other
 
+-- the accepted words that the table has for those of a time, with their options, or it has none
+abbrev pub IsTakenTime : ToolName → List (List ℕ) → Option (List (List ℕ)) → Type 0
+IsTakenTime tool words (Some timed) = IsTimed tool (option_words tool words) timed × IsAccepted timed
+IsTakenTime tool words None = (other : List (List ℕ)) → IsTimed tool (option_words tool words) other → ¬ IsAccepted other
+
+-- each call is accepted
+abbrev pub AreAccepted : List (List (List ℕ)) → Type 0
+AreAccepted [] = Unit {0}
+AreAccepted (call ∷ calls) = IsAccepted call × AreAccepted calls
+
 -- each call is accepted, exactly if this is true
 abbrev pub AreJudged : List (List (List ℕ)) → Bool → Type 0
-AreJudged calls accepted = IsTrue accepted ↔ All IsAccepted calls
+AreJudged calls accepted = IsTrue accepted ↔ AreAccepted calls
 
 -- The table has these calls for the words: those of its options and numbers, or, where they are not accepted and times are
 -- rewritten too, the words with these options and with the time that it has.
 pub data IsRelated (tool : ToolName) (takes_times : Bool) (words : List (List ℕ)) : List (List (List ℕ)) → Type 0 where
   by_options : IsRelated tool takes_times words (option_calls tool words)
-  by_time : (other : List (List ℕ)) → IsTrue takes_times → ¬ All IsAccepted (option_calls tool words)
+  by_time : (other : List (List ℕ)) → IsTrue takes_times → ¬ AreAccepted (option_calls tool words)
       → IsTimed tool (option_words tool words) other → IsRelated tool takes_times words (other ∷ [])
 
 -- Words that are accepted are one call, as they are. Others are the calls that the table has for them, where these are
@@ -96,7 +106,7 @@ pub data IsRelated (tool : ToolName) (takes_times : Bool) (words : List (List �
 pub record IsTyped (tool : ToolName) (takes_times : Bool) (words : List (List ℕ)) (calls : List (List (List ℕ))) : Type 0 where
   pub accepted : IsAccepted words → calls ≡ words ∷ []
   pub replaced : ¬ IsAccepted words → (other : List (List (List ℕ))) → IsRelated tool takes_times words other
-      → All IsAccepted other → calls ≡ other
+      → AreAccepted other → calls ≡ other
   pub unchanged : ¬ IsAccepted words
-      → ((other : List (List (List ℕ))) → IsRelated tool takes_times words other → ¬ All IsAccepted other)
+      → ((other : List (List (List ℕ))) → IsRelated tool takes_times words other → ¬ AreAccepted other)
       → calls ≡ words ∷ []

@@ -1,7 +1,7 @@
 -- Times, as the table rewrites them: Debian's unit `min` (at(1), 3.2.5), and the tokens of Debian's dates.
 use Rattle.std.specs.Prelude.{◌≡◌, ◌+◌, ◌-◌, ◌==◌, ◌&&◌, ◌++◌, ℕ, Bool, false, not, nat_lt, List, Option, Some, None, codes, length, slice_index, take, if◌then◌else◌}
 use Rattle.std.specs.Char.{is_ascii_alphabetic, to_ascii_lowercase}
-use Rattle.timespec_lexer.specs.Tokens.{Tokenizes}
+use Rattle.timespec_lexer.specs.Tokens.{IsOnlyReading, Tokenizes}
 use Rattle.timespec_lexer.specs.declared.placed.Placed.{Placed}
 use Rattle.timespec_grammar.specs.Grammar.{Spells, tokens_of}
 use Rattle.timespec_grammar.specs.declared.timespec.Timespec.{Timespec}
@@ -33,10 +33,11 @@ ends_in_min text =
 abbrev pub with_whole_unit : List ℕ → List ℕ
 with_whole_unit text = if ends_in_min text then text ++ codes "utes" else text
 
--- the table has the other text for the time
+-- the table has the other text for the time, by the tokens of the time, which are the only ones
 pub record IsChangedTime (text other : List ℕ) : Type 0 where
   pub placed : List Placed
   pub reads : Tokenizes (with_whole_unit text) placed
+  pub only : IsOnlyReading (with_whole_unit text) placed
   pub changed : other ≡ spelled (changed_tokens (tokens_of placed))
 
 -- the text that the table has for the time, or it has none

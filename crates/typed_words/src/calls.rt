@@ -1,7 +1,7 @@
 //! The calls that typed words make.
 ghost use Rattle.std.specs.Prelude.{◌≡◌, ◌++◌, ◌∷◌, [], IfOk, OnOk, map, option_map, string_bytes};
 ghost use Rattle.typed_words.specs.Accepted.{spec_time};
-ghost use Rattle.typed_words.specs.Calls.{IsTiming, AreJudged, IsTiming, IsTimingBy, IsTyped, number_call, number_calls, option_calls, version_call, with_time};
+ghost use Rattle.typed_words.specs.Calls.{AreJudged, IsTakenTime, IsTiming, IsTimingBy, IsTyped, number_call, number_calls, option_calls, version_call, with_time};
 
 use crate::accepted::{is_accepted, spec_time};
 use crate::numbers::are_numbers;
@@ -21,7 +21,8 @@ pub fn typed_calls(
 ) -> Result<Vec<Vec<String>>, AllocError>
     /// Words that are accepted are one call, as they are. Of others the table has options, numbers of jobs and times; where
     /// what it has is accepted these are the calls, and else the words as they are.
-    ensures { IfOk result (λ calls. IsTyped tool takes_times (map string_bytes words.items) (map (λ call. map string_bytes call.items) calls.items)) }
+    ensures { IfOk result (λ calls. IsTyped tool takes_times (map string_bytes words.items)
+        (map (λ call. map string_bytes call.items) calls.items)) }
 {
     if is_accepted(alloc, &words)? {
         return one_call(alloc, words);
@@ -30,20 +31,19 @@ pub fn typed_calls(
     if are_accepted(alloc, &calls)? {
         return Ok(calls);
     }
-    if takes_times {
-        let options = option_words(alloc, tool, &words)?;
-        if let Some(timed) = timed_words(alloc, tool, &options)? {
-            if is_accepted(alloc, &timed)? {
-                return one_call(alloc, timed);
-            }
-        }
+    if !takes_times {
+        return one_call(alloc, words);
     }
-    one_call(alloc, words)
+    match taken_time(alloc, tool, &words)? {
+        Some(timed) => one_call(alloc, timed),
+        None => one_call(alloc, words),
+    }
 }
 
 /// One call.
 pub fn one_call(alloc: Global, words: Vec<String>) -> Result<Vec<Vec<String>>, AllocError>
-    ensures { IfOk result (λ calls. map (λ call. map string_bytes call.items) calls.items ≡ map string_bytes words.items ∷ []) }
+    ensures { IfOk result (λ calls. map (λ call. map string_bytes call.items) calls.items
+        ≡ map string_bytes words.items ∷ []) }
 {
     let mut calls = Vec::new(alloc);
     calls.push(words)?;
@@ -128,6 +128,26 @@ fn number_call(alloc: Global, number: &str) -> Result<Vec<String>, AllocError>
     call.push(copied(alloc, "-l")?)?;
     call.push(copied(alloc, number)?)?;
     Ok(call)
+}
+
+// The words with their options and their time as the table has them, where these are accepted.
+fn taken_time(
+    alloc: Global,
+    tool: ToolName,
+    words: &[String],
+) -> Result<Option<Vec<String>>, AllocError>
+    ensures { IfOk result (λ made. IsTakenTime tool (map string_bytes words.now)
+        (option_map (λ call. map string_bytes call.items) made)) }
+{
+    let options = option_words(alloc, tool, words)?;
+    let Some(timed) = timed_words(alloc, tool, &options)? else {
+        return Ok(None);
+    };
+    if is_accepted(alloc, &timed)? {
+        Ok(Some(timed))
+    } else {
+        Ok(None)
+    }
 }
 
 // The words with their options and their time as the table has them. None where they name no time that has tokens.

@@ -1,6 +1,6 @@
 //! Options, as the table rewrites them.
 ghost use Rattle.std.specs.Prelude.{◌≡◌, ◌++◌, ◌<◌, IfOk, OnOk, map, option_copied, string_bytes};
-ghost use Rattle.typed_words.specs.Options.{after_letter, changed_words, cluster_of, is_end_word, letters_kept, letters_of, option_words, options_alone, words_cluster, with_cluster};
+ghost use Rattle.typed_words.specs.Options.{after_letter, changed_word, changed_words, cluster_by, cluster_of, is_end_word, letters_kept, letters_of, option_words, options_alone, words_cluster, with_cluster};
 
 use crate::letters::{LetterUse, letter_use};
 use caller_environment::ToolName;
@@ -237,7 +237,8 @@ fn is_end_word(word: &str) -> bool
 
 // Appends copies of the words.
 fn push_all(alloc: Global, words: &[String], made: &mut Vec<String>) -> Result<(), AllocError>
-    ensures { OnOk result (map string_bytes made.new.items ≡ map string_bytes made.old.items ++ map string_bytes words.now) }
+    ensures { OnOk result (map string_bytes made.new.items
+        ≡ map string_bytes made.old.items ++ map string_bytes words.now) }
 {
     match words {
         [] => Ok(()),

@@ -15,7 +15,7 @@ case_door_hints() {
     hinted "$line" "$hint"
   done <<END
 $spool|UTC|at </dev/null|at: usage|at --help
-$spool|UTC|atq 1|atq: usage|atq --help
+$spool|UTC|atq x|atq: usage|atq --help
 $spool|UTC|atstat --turns 2|atstat: usage|atstat --help
 $spool|UTC|atcheck x y z|atcheck: usage|atcheck --help
 $spool|UTC|at 830 </dev/null|at: bad time at byte 0|8:15 tomorrow
