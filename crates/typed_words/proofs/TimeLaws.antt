@@ -1,12 +1,15 @@
 -- What the grammar accepts, and the one text that the table has for a time: IsGrammarTime, IsChangedTime.
-use Rattle.std.proofs.Common.{◌≡◌, ℕ, List, Option, sym, ◌∙◌, ap, subst}
+use Rattle.std.proofs.Common.{◌≡◌, ℕ, List, Option, Some, sym, ◌∙◌, ap, subst}
 use Rattle.timespec_grammar.specs.Grammar.{Spells, tokens_of}
 use Rattle.timespec_grammar.specs.declared.timespec.Timespec.{Timespec}
 use Rattle.timespec_lexer.specs.Tokens.{IsOnlyReading, IsOnlyRefusal, Tokenizes}
 use Rattle.timespec_lexer.specs.declared.placed.Placed.{Placed}
 use Rattle.typed_words.specs.Dates.{changed_tokens}
-use Rattle.typed_words.specs.Spelled.{spelled}
+use Rattle.typed_words.specs.Spelled.{spelled_tokens}
 use Rattle.typed_words.specs.Times.{IsChangedTime, IsGrammarTime, with_whole_unit}
+
+pub some_same : (a b : List ℕ) → Some a ≡ Some b → a ≡ b
+some_same a b same = cc
 
 -- tokens that spell a time make it accepted
 pub time_spelled : (text : List ℕ) (placed : List Placed) (meant : Timespec) → Tokenizes text placed → Spells (tokens_of placed) meant
@@ -28,7 +31,7 @@ time_unread text place only time = only.no_tokens time.placed time.reads
 pub one_time : (text a b : List ℕ) → IsChangedTime text a → IsChangedTime text b → b ≡ a
 one_time text a b first second =
     second.changed
-    ∙ ap (λ placed. spelled (changed_tokens (tokens_of placed))) (first.only.no_other second.placed second.reads)
+    ∙ ap (λ placed. spelled_tokens (changed_tokens (tokens_of placed))) (first.only.no_other second.placed second.reads)
     ∙ sym first.changed
 
 -- none for a text without tokens

@@ -7,10 +7,7 @@ use Rattle.typed_words.specs.Accepted.{IsAccepted, spec_time}
 use Rattle.typed_words.specs.Calls.{AreAccepted, IsRelated, by_options, by_time, IsTimed, IsTimedBy, IsTyped, option_calls, with_time}
 use Rattle.typed_words.specs.Options.{option_words}
 use Rattle.typed_words.specs.Times.{IsChangedTime}
-use Rattle.typed_words.proofs.TimeLaws.{one_time}
-
-some_same : (a b : List ℕ) → Some a ≡ Some b → a ≡ b
-some_same a b same = cc
+use Rattle.typed_words.proofs.TimeLaws.{one_time, some_same}
 
 ok_same : (a b : ToolRequest) (found : Result ToolRequest WordsFault) → found ≡ Ok a → found ≡ Ok b → a ≡ b
 ok_same a b found first second = cc

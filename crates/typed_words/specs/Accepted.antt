@@ -29,9 +29,9 @@ IsTimeTaken (Some text) = IsGrammarTime text
 IsTimeTaken None = Unit {0}
 
 -- the words request this, and the grammar accepts the time that it names
-abbrev pub IsTaken : Result ToolRequest WordsFault → Type 0
-IsTaken (Ok asked) = IsTimeTaken (spec_time asked)
-IsTaken (Err fault) = ⊥
+abbrev pub IsRequestTaken : Result ToolRequest WordsFault → Type 0
+IsRequestTaken (Ok asked) = IsTimeTaken (spec_time asked)
+IsRequestTaken (Err fault) = ⊥
 
 -- the words after the name of a tool are `--version` alone
 abbrev pub asks_version : List (List ℕ) → Bool
@@ -40,8 +40,8 @@ asks_version _ = false
 
 -- the words request something, with a time that the grammar accepts, or the version
 abbrev pub IsAccepted : List (List ℕ) → Type 0
-IsAccepted words = IsTrue (asks_version words) ⊎ IsTaken (request_of words)
+IsAccepted words = IsTrue (asks_version words) ⊎ IsRequestTaken (request_of words)
 
 -- the words are requests, exactly if this is true
-abbrev pub IsJudged : List (List ℕ) → Bool → Type 0
-IsJudged words accepted = IsTrue accepted ↔ IsTaken (request_of words)
+abbrev pub IsRequestJudged : List (List ℕ) → Bool → Type 0
+IsRequestJudged words accepted = IsTrue accepted ↔ IsRequestTaken (request_of words)

@@ -20,9 +20,9 @@ is_unit_alone _ = false
 abbrev pub after_next : List Token → List Token
 after_next later = if is_unit_alone later then token.Now ∷ token.Next ∷ later else token.Next ∷ later
 
-abbrev pub is_number : Token → Bool
-is_number (token.Number digits value) = true
-is_number _ = false
+abbrev pub is_number_token : Token → Bool
+is_number_token (token.Number digits value) = true
+is_number_token _ = false
 
 -- a year of four digits, and what follows it
 abbrev pub year_first : List Token → Option (Token × List Token)
@@ -42,7 +42,7 @@ with_year first second mark rest = option_map (λ found. first ∷ second ∷ ma
 -- a month, a day and a year, with the comma that is absent
 abbrev pub month_first : Token → List Token → Option (List Token)
 month_first month [] = None
-month_first month (day ∷ later) = if is_number day then with_year month day token.Comma (year_first later) else None
+month_first month (day ∷ later) = if is_number_token day then with_year month day token.Comma (year_first later) else None
 
 -- a number of one or two digits comes first
 abbrev pub begins_day : List Token → Bool
@@ -80,7 +80,7 @@ is_mark_pair _ second = false
 abbrev pub second_mark : Token → Token → List Token → Option (List Token)
 second_mark mark number [] = None
 second_mark mark number (second ∷ later) =
-    if is_number number && is_mark_pair mark second then with_year mark number second (long_year later) else None
+    if is_number_token number && is_mark_pair mark second then with_year mark number second (long_year later) else None
 
 -- a number between two of these marks, and a year of two digits
 abbrev pub mark_first : Token → List Token → Option (List Token)

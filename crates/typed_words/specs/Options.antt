@@ -93,7 +93,7 @@ with_cluster cluster later =
     record {
       awaits_value = later.awaits_value;
       is_batch = cluster.is_batch || later.is_batch;
-      is_version = cluster.is_version || later.is_version
+      is_version = cluster.is_version || later.is_version;
     }
 
 -- what the options of the words say, of which the first may be a value

@@ -6,7 +6,7 @@ use Rattle.timespec_lexer.specs.declared.placed.Placed.{Placed}
 use Rattle.timespec_grammar.specs.Grammar.{Spells, tokens_of}
 use Rattle.timespec_grammar.specs.declared.timespec.Timespec.{Timespec}
 use Rattle.typed_words.specs.Dates.{changed_tokens}
-use Rattle.typed_words.specs.Spelled.{spelled}
+use Rattle.typed_words.specs.Spelled.{spelled_tokens}
 
 -- the grammar accepts the time
 pub record IsGrammarTime (text : List ℕ) : Type 0 where
@@ -38,7 +38,7 @@ pub record IsChangedTime (text other : List ℕ) : Type 0 where
   pub placed : List Placed
   pub reads : Tokenizes (with_whole_unit text) placed
   pub only : IsOnlyReading (with_whole_unit text) placed
-  pub changed : other ≡ spelled (changed_tokens (tokens_of placed))
+  pub changed : other ≡ spelled_tokens (changed_tokens (tokens_of placed))
 
 -- the text that the table has for the time, or it has none
 abbrev pub IsTimeChange : List ℕ → Option (List ℕ) → Type 0

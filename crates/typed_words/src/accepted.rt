@@ -1,6 +1,6 @@
 //! Words that are accepted as they are.
 ghost use Rattle.std.specs.Prelude.{◌≡◌, ◌↔◌, IfOk, IsTrue, map, option_copied, string_bytes};
-ghost use Rattle.typed_words.specs.Accepted.{IsAccepted, IsJudged, IsTimeTaken, asks_version, spec_of, spec_time};
+ghost use Rattle.typed_words.specs.Accepted.{IsAccepted, IsRequestJudged, IsTimeTaken, asks_version, spec_of, spec_time};
 
 use crate::times::is_time;
 use at_words::{ToolRequest, When, WordsFault, request};
@@ -19,7 +19,7 @@ pub fn is_accepted(alloc: Global, words: &[String]) -> Result<bool, AllocError>
 
 // Whether the words request something, and the grammar accepts the time that they name.
 fn is_request(alloc: Global, words: &[String]) -> Result<bool, AllocError>
-    ensures { IfOk result (IsJudged (map string_bytes words.now)) }
+    ensures { IfOk result (IsRequestJudged (map string_bytes words.now)) }
 {
     match request(alloc, words) {
         Ok(asked) => Ok(has_taken_time(&asked)),

@@ -1,6 +1,6 @@
 //! Tokens of Debian's times, as those of the same time that the grammar has.
 ghost use Rattle.std.specs.Prelude.{◌≡◌, ◌++◌, IfOk, OnOk, option_map};
-ghost use Rattle.typed_words.specs.Dates.{after_next, after_tomorrow, begins_day, changed_tokens, date_at, day_first, day_of_month, is_mark_pair, is_number, is_unit_alone, long_year, mark_first, month_first, with_date, year_first};
+ghost use Rattle.typed_words.specs.Dates.{after_next, after_tomorrow, begins_day, changed_tokens, date_at, day_first, day_of_month, is_mark_pair, is_number_token, is_unit_alone, long_year, mark_first, month_first, with_date, year_first};
 ghost use Rattle.typed_words.specs.Tomorrow.{days_after_today};
 ghost use Rattle.typed_words.specs.inside.Parts.{parted, tokens_of_date};
 
@@ -130,7 +130,7 @@ fn month_first<'a>(month: Token, later: &'a [Token]) -> Option<Dated<'a>>
     ensures { option_map tokens_of_date result ≡ month_first month later.entry.now }
 {
     match later {
-        [day, others @ ..] if is_number(*day) => {
+        [day, others @ ..] if is_number_token(*day) => {
             let (year, rest) = year_first(others)?;
             Some(Dated {
                 first: month,
@@ -179,21 +179,22 @@ fn mark_first<'a>(mark: Token, later: &'a [Token]) -> Option<Dated<'a>>
     ensures { option_map tokens_of_date result ≡ mark_first mark later.entry.now }
 {
     match later {
-        [number, second, others @ ..] if is_number(*number) && is_mark_pair(mark, *second) => {
-            let (year, rest) = long_year(others)?;
-            Some(Dated {
-                first: mark,
-                second: *number,
-                third: Some((*second, year)),
-                later: rest,
-            })
-        }
+        [number, second, others @ ..] if is_number_token(*number) && is_mark_pair(mark, *second) =>
+            {
+                let (year, rest) = long_year(others)?;
+                Some(Dated {
+                    first: mark,
+                    second: *number,
+                    third: Some((*second, year)),
+                    later: rest,
+                })
+            }
         _ => None,
     }
 }
 
-fn is_number(token: Token) -> bool
-    ensures { result ≡ is_number token }
+fn is_number_token(token: Token) -> bool
+    ensures { result ≡ is_number_token token }
 {
     matches!(token, Token::Number { .. })
 }

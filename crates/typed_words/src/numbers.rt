@@ -14,10 +14,10 @@ pub fn are_numbers(words: &[String]) -> bool
 fn is_number_word(word: &[u8]) -> bool
     ensures { result ≡ is_number_word word.now }
 {
-    !word.is_empty() && are_digits(word)
+    !word.is_empty() && are_digits_alone(word)
 }
 
-fn are_digits(word: &[u8]) -> bool
+fn are_digits_alone(word: &[u8]) -> bool
     ensures { result ≡ list_all is_ascii_digit word.now }
 {
     word.iter().all(|byte| byte.is_ascii_digit())

@@ -112,7 +112,11 @@ fn push_word(
         return Ok(());
     }
     let mut kept = copied(alloc, "-")?;
-    push_letters(&mut kept, tool, after_letter(word, b'-').unwrap_or_default())?;
+    push_letters(
+        &mut kept,
+        tool,
+        after_letter(word, b'-').unwrap_or_default(),
+    )?;
     if kept.len() > 1 {
         made.push(kept)?;
     }
@@ -223,7 +227,13 @@ pub fn push_options(
             if !letters.is_empty() {
                 made.push(copied(alloc, word)?)?;
             }
-            push_options(alloc, tool, cluster_of(tool, letters).awaits_value, later, made)
+            push_options(
+                alloc,
+                tool,
+                cluster_of(tool, letters).awaits_value,
+                later,
+                made,
+            )
         }
     }
 }

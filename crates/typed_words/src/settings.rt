@@ -57,7 +57,8 @@ fn takes_debian_times(read: &FileRead) -> bool
 fn has_times_line(file: &[u8]) -> bool
     ensures { result ≡ has_times_line file.now }
 {
-    file.split(|byte| *byte == b'\n').any(|line| is_times_line(line))
+    file.split(|byte| *byte == b'\n')
+        .any(|line| is_times_line(line))
 }
 
 fn is_times_line(line: &[u8]) -> bool

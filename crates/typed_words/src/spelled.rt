@@ -1,13 +1,13 @@
 //! Tokens as a text.
 ghost use Rattle.std.specs.Prelude.{◌≡◌, ◌++◌, OnOk, string_bytes};
-ghost use Rattle.typed_words.specs.Spelled.{digits_of, month_name, spelled, spelled_token, unit_name, weekday_name, word_of};
+ghost use Rattle.typed_words.specs.Spelled.{last_digits, month_word, spelled_tokens, spelled_token, unit_name, weekday_word, word_of};
 
 use std::alloc::AllocError;
 use timespec_lexer::{Period, Token};
 
 /// Appends the tokens, with a space after each.
 pub fn push_tokens(text: &mut String, tokens: &[Token]) -> Result<(), AllocError>
-    ensures { OnOk result (string_bytes text.new ≡ string_bytes text.old ++ spelled tokens.now) }
+    ensures { OnOk result (string_bytes text.new ≡ string_bytes text.old ++ spelled_tokens tokens.now) }
 {
     match tokens {
         [] => Ok(()),
@@ -30,7 +30,7 @@ fn push_token(text: &mut String, token: Token) -> Result<(), AllocError>
 
 // Appends so many digits of a number.
 fn push_digits(text: &mut String, digits: u8, value: u32) -> Result<(), AllocError>
-    ensures { OnOk result (string_bytes text.new ≡ string_bytes text.old ++ digits_of digits value) }
+    ensures { OnOk result (string_bytes text.new ≡ string_bytes text.old ++ last_digits digits value) }
 {
     if digits == 0 {
         return Ok(());
@@ -61,14 +61,14 @@ fn word_of(token: Token) -> &'static str
         Token::Am => "am",
         Token::Pm => "pm",
         Token::Utc => "utc",
-        Token::Month(month) => month_name(month),
-        Token::Weekday(day) => weekday_name(day),
+        Token::Month(month) => month_word(month),
+        Token::Weekday(day) => weekday_word(day),
         Token::Unit(period) => unit_name(period),
     }
 }
 
-fn month_name(month: u8) -> &'static str
-    ensures { result.now ≡ month_name month }
+fn month_word(month: u8) -> &'static str
+    ensures { result.now ≡ month_word month }
 {
     match month {
         1 => "jan",
@@ -86,8 +86,8 @@ fn month_name(month: u8) -> &'static str
     }
 }
 
-fn weekday_name(day: u8) -> &'static str
-    ensures { result.now ≡ weekday_name day }
+fn weekday_word(day: u8) -> &'static str
+    ensures { result.now ≡ weekday_word day }
 {
     match day {
         0 => "sun",

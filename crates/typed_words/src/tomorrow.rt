@@ -23,7 +23,9 @@ fn counted_days(tokens: &[Token]) -> Option<u32>
     ensures { result ≡ counted_days tokens.now }
 {
     match tokens {
-        [Token::Number { value, .. }, later @ ..] if *value <= MAX_COUNT => unit_days(*value, later),
+        [Token::Number { value, .. }, later @ ..] if *value <= MAX_COUNT => unit_days(
+            *value, later,
+        ),
         _ => None,
     }
 }

@@ -41,7 +41,10 @@ const TIMES: [(&str, Option<&str>); 100] = [
     ("tomorrow midnight", None),
     ("noon + 2 days", Some("noon + 2 days")),
     ("teatime tomorrow", Some("teatime tomorrow")),
-    ("teatime tomorrow + 2 weeks", Some("teatime tomorrow + 2 weeks")),
+    (
+        "teatime tomorrow + 2 weeks",
+        Some("teatime tomorrow + 2 weeks"),
+    ),
     ("noon tomorrow + 2 weeks", Some("noon tomorrow + 2 weeks")),
     ("10:00", Some("10:00")),
     ("10:00 tomorrow", Some("10:00 tomorrow")),
@@ -146,7 +149,10 @@ const CALLS: [(&str, &str); 49] = [
     ("at|-f|-|now|+|1|hour", "at|-f|-|now|+|1|hour"),
     ("at|-f|/tmp|now|+|1|hour", "at|-f|/tmp|now|+|1|hour"),
     ("at|-f|ff|now|+|1|hour", "at|-f|ff|now|+|1|hour"),
-    ("at|-f|/dev/fd/63|now|+|1|hour", "at|-f|/dev/fd/63|now|+|1|hour"),
+    (
+        "at|-f|/dev/fd/63|now|+|1|hour",
+        "at|-f|/dev/fd/63|now|+|1|hour",
+    ),
     ("at|-t|203001010000", "at|-t|203001010000"),
     ("at|-t|202612021600", "at|-t|202612021600"),
     ("at|now|+|1|hour|-q|c", "at|now|+|1|hour|-q|c"),
@@ -243,7 +249,12 @@ fn line_calls(alloc: Global, line: &str, takes_times: bool) -> Result<String, Al
     calls_shown(alloc, calls.as_slice())
 }
 
-fn check_rows<R: Abort>(rt: &R, alloc: Global, rows: &[(&str, &str)], takes_times: bool) -> Result<(), AllocError> {
+fn check_rows<R: Abort>(
+    rt: &R,
+    alloc: Global,
+    rows: &[(&str, &str)],
+    takes_times: bool,
+) -> Result<(), AllocError> {
     for (line, calls) in rows {
         let shown = line_calls(alloc, line, takes_times)?;
         assert_eq!(rt; shown.as_str(), *calls, "{line}");
@@ -269,7 +280,12 @@ fn times(rt: HostRuntime) -> Result<(), Fail> {
 }
 
 // Whether the grammar accepts the time, and what it is rewritten as; without Debian's times it stays.
-fn check_time<R: Abort>(rt: &R, alloc: Global, time: &str, taken: Option<&str>) -> Result<(), AllocError> {
+fn check_time<R: Abort>(
+    rt: &R,
+    alloc: Global,
+    time: &str,
+    taken: Option<&str>,
+) -> Result<(), AllocError> {
     let line = format!(in alloc; "at|{time}")?;
     let words = words_of(alloc, line.as_str())?;
     let accepted = is_accepted(alloc, &words)?;
